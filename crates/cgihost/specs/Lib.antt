@@ -1,0 +1,6 @@
+pub mod Pieces
+pub mod ChildEvents
+pub mod OnceEvents
+pub mod Asked
+pub mod Commands
+pub mod StatusLines

@@ -1,0 +1,68 @@
+// The real store.
+ghost use Rattle.std.specs.Prelude.{◌≡◌, ◌≤◌, None, IfOk, vec_len};
+
+use host_base::{SiteStore, StoreFault};
+use std::alloc::Global;
+use std::fs::File;
+use std::io;
+use std::io::{ErrorKind, Read};
+use std::rt::Files;
+
+/// The longest site file that is read.
+const LONGEST: u64 = 1_048_576;
+
+/// The files of the system. It tells nothing of what they hold.
+#[derive(Drop)]
+pub struct FileStore<R> {
+    rt: R,
+    alloc: Global,
+    faults: u64,
+}
+
+impl<R> FileStore<R> {
+    pub fn new(rt: R, alloc: Global) -> Self
+        ensures { result.faults ≡ 0 }
+    {
+        FileStore {
+            rt,
+            alloc,
+            faults: 0,
+        }
+    }
+}
+
+impl<R: Files> FileStore<R> {
+    // The whole file, where it is not longer than the longest; else one byte more than that of it.
+    fn read_front(&self, name: &str) -> io::Result<Vec<u8>> {
+        let file = File::open(&self.rt, name)?;
+        let mut bytes = Vec::new(self.alloc);
+        file.take(LONGEST + 1).read_to_end(&mut bytes)?;
+        Ok(bytes)
+    }
+}
+
+impl<R: Files> SiteStore for FileStore<R> {
+    ghost use Rattle.std.specs.Prelude.{◌≡◌, ◌≤◌, None, IfOk, vec_len};
+    ghost use Rattle.host_base.specs.Outsides.{Rose, Holds};
+
+    ghost stored = { λ _. None };
+
+    ghost faults = { λ s. s.faults };
+
+    fn read(&mut self, name: &str) -> Result<Vec<u8>, StoreFault>
+        ensures found { IfOk result (λ bytes. Holds None name.now bytes.items) }
+        ensures count { self.old.faults ≤ self.new.faults }
+        ensures cause { result ≡ Err StoreFault.Failed → Rose self.old.faults self.new.faults }
+        ensures longest { IfOk result (λ bytes. vec_len bytes ≤ 1048576) }
+    {
+        match self.read_front(name) {
+            Ok(bytes) if bytes.len() as u64 <= LONGEST => return Ok(bytes),
+            Err(error) if error.kind() == ErrorKind::OutOfMemory => {
+                return Err(StoreFault::NoMemory);
+            }
+            _ => {}
+        }
+        self.faults = self.faults.saturating_add(1);
+        Err(StoreFault::Failed)
+    }
+}

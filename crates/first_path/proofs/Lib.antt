@@ -1,0 +1,4 @@
+pub mod RequestLaws
+pub mod OutputLaws
+pub mod LaunchLaws
+pub mod HeardLaws

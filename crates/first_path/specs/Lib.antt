@@ -1,0 +1,5 @@
+pub mod FirstRequest
+pub mod FirstOutput
+pub mod FirstLaunch
+pub mod Heard
+pub mod FirstHearing

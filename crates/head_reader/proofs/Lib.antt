@@ -1,0 +1,5 @@
+pub mod WordLaws
+pub mod HeadLaws
+pub mod SecondWord
+pub mod ReadLaws
+pub mod Computed

@@ -1,0 +1,3 @@
+pub mod RequestHead
+pub mod HeadLaws
+pub mod HeadSpans

@@ -1,0 +1,18 @@
+//! Request heads (RFC 9112 2.1, 3 and 5): what the bytes of a connection begin with.
+#![tactic(auto)]
+
+mod laws;
+mod parse;
+mod read;
+mod request_line;
+mod step;
+
+pub use laws::{
+    answers_stay, fronts_say_the_grammar, heads_are_read, heads_are_unique, more_is_open,
+    says_the_grammar, wholes_are_heads,
+};
+pub use read::{read_head, read_head_from};
+pub use step::HeadStep;
+
+#[cfg(test)]
+mod tests;

@@ -1,0 +1,11 @@
+-- No part up to the rest is the word.
+use Rattle.std.proofs.Common.{◌≡◌, length}
+use Rattle.std.specs.List.{list_any, slice_split}
+use Rattle.host_base.specs.Ascii.{is_comma, is_listed_as}
+use Rattle.host_base.proofs.ascii.has_part.Given as goal
+
+abbrev pub invariant-loop-part : goal.invariant-loop-part
+invariant-loop-part l = list_any (is_listed_as l.word) (slice_split is_comma l.rest) ≡ list_any (is_listed_as l.word) (slice_split is_comma l.fn.value)
+
+abbrev pub decreases-loop-part : goal.decreases-loop-part
+decreases-loop-part l = length l.rest

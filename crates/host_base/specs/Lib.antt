@@ -1,0 +1,6 @@
+pub mod Ascii
+pub mod CauseText
+pub mod FieldLists
+pub mod LimitRanges
+pub mod Outsides
+pub mod SiteRules

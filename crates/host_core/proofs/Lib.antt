@@ -1,0 +1,9 @@
+pub mod KnowsLaws
+pub mod ActsLaws
+pub mod CalmLaws
+pub mod DeciderLaws
+pub mod AnswerLaws
+pub mod ReplyLaws
+pub mod LaunchLaws
+pub mod StartLaws
+pub mod StandsLaws

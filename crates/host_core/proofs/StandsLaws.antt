@@ -1,0 +1,627 @@
+-- One step of a core that stands for a trace.
+use Rattle.std.proofs.Common.{◌≡◌, ℕ, ◌+◌, ◌≤◌, List, [], ◌∷◌, ◌++◌, Bool, true, false, ◌||◌, ◌&&◌, map, refl, sym, ◌∙◌, ap, subst, append_assoc, append-nil, arith, Option, Some, None, inl, inr, length, length-append}
+use Rattle.std.specs.Prelude.{if◌then◌else◌, not, count_by, ◌==◌, ◌⊎◌, nat_lt}
+use Rattle.std.specs.List.{AllByRecursion, flat_map, fold, list_any, list_all}
+use Rattle.std.proofs.lemmas.List.Concat.{flat_map-append}
+use Rattle.std.proofs.lemmas.List.Folds.{list_all-append}
+use Rattle.std.proofs.Math.Bool.{or-true}
+use Rattle.std.proofs.lemmas.Bool.{or_parts, and_parts, ltb-true}
+use Rattle.std.proofs.lemmas.Grind.{common_steps, fold-append}
+use Rattle.host_base.specs.declared.limits.Limits.{Limits}
+use Rattle.host_base.specs.declared.site.Site.{Site}
+use Rattle.host_base.specs.LimitRanges.{AreInRange}
+use Rattle.host_trace.specs.declared.items.Event.{Event}
+use Rattle.host_trace.specs.declared.items.Event.TheVariants.{ClientBytes, ClientEof, ChildBytes, ChildEof, ChildBroken, WsText, WsBinary, WsClosed, WsBad}
+use Rattle.host_trace.specs.declared.items.Act.{Act}
+use Rattle.host_trace.specs.declared.items.Why.{Why}
+use Rattle.host_trace.specs.declared.items.Why.TheVariants.{NoMemory}
+use Rattle.host_base.specs.declared.launch.Launch.{Launch}
+use Rattle.host_trace.specs.declared.items.Item.{Item}
+use Rattle.host_trace.specs.declared.items.Item.TheVariants.{In, Out}
+use Rattle.host_trace.specs.First.{first, since}
+use Rattle.host_trace.specs.Kinds.{is_accepted, is_shut, is_want_client, is_client_answer, is_want_child, is_child_answer, is_stop, is_child_eof, is_output_end, is_start, bytes_heard, output_heard}
+use Rattle.host_trace.specs.Projections.{shut, shut_for_memory, client_in, client_out, child_out, client_wanted, child_wanted, output_ended, accepted_count, upgraded, started}
+use Rattle.host_trace.specs.Fits.{fits, is_asked, is_asked_upgraded, is_output_asked, is_piece}
+use Rattle.host_trace.specs.Trace.{step_of, after_step, steps}
+use Rattle.host_trace.specs.Told.{Adds}
+use Rattle.host_trace.proofs.StepLaws.{steps-append}
+use Rattle.first_path.specs.declared.asked.Asked.{Asked}
+use Rattle.first_path.specs.declared.asked.Asked.TheVariants.{More, Refused, Script}
+use Rattle.first_path.specs.FirstRequest.{asked}
+use Rattle.host_core.specs.declared.child.Outcome.{Outcome}
+use Rattle.host_core.specs.declared.child.Outcome.TheVariants.{Undecided, Output, Dropped}
+use Rattle.host_core.specs.declared.machine.Core.{Core}
+use Rattle.std.proofs.Common.{Global, Bor}
+use Rattle.host_core.specs.Built.{IsBuilt, is_built_item}
+use Rattle.host_core.specs.Answer.{answer, spelling}
+use Rattle.host_core.specs.Replies.{Replies}
+use Rattle.host_core.specs.Launches.{Launches}
+use Rattle.host_core.specs.Good.{StepGood, Good}
+use Rattle.host_core.specs.Knows.{Knows, Admits, StartsNone, Notes, noted, one_if, outcome_of, outcome_by, decided, decides, is_unbuilt, asked_by, more_unless}
+use Rattle.host_core.specs.Due.{asks, acted, acts_of, is_open, is_over, is_undecided, closed, closed_by, due_why, handled, gone_on, gone_on_by, is_waiting, answered, is_some_text, due_answer, answer_by, text_by, launch_by, begun_by}
+use Rattle.host_core.specs.Stands.{Steps, Stands, calm, calm_by, is_output, ended, is_closed, apt, apt_by, is_script}
+use Rattle.host_core.proofs.KnowsLaws.{Knows-noted}
+use Rattle.host_core.proofs.ActsLaws.{not-true, Knows-acted, Knows-losing_all}
+use Rattle.host_core.proofs.CalmLaws.{shut_open, lost_shut, unanswered_yet, answered-lost, calm-noted, calm-acted, ended-acted, closed-acted, apt-acted, acted-shut, handled-same, handled-outcome, went, Went}
+use Rattle.host_core.proofs.AnswerLaws.{model_by, answer-is, text-is, no_text, no_spelling, stable}
+use Rattle.host_core.proofs.ReplyLaws.{client_out-step, given_text, heard-acts}
+use Rattle.host_core.proofs.LaunchLaws.{launches-step}
+
+-- ---- good goes on
+
+AllByRecursion-push : {X : Type 0} (P : X → Type 0) (xs : List X) (y : X) → AllByRecursion P xs → P y → AllByRecursion P (xs ++ y ∷ [])
+AllByRecursion-push P [] y all here = (here, tt)
+AllByRecursion-push P (x ∷ xs) y all here = (all.0, AllByRecursion-push P xs y all.1 here)
+
+pub Good-push : (site : Site) (T : List Item) (event : Event) (acts : List Act) →
+    Good site T → StepGood site (step_of T event acts) → Good site (after_step T event acts)
+Good-push site T event acts good step =
+    rw (steps-append T event acts) (AllByRecursion-push (StepGood site) (steps T) (step_of T event acts) good step)
+
+-- ---- a front of what is built is built
+
+count_more : (n : ℕ) (W : List Item) → n ≤ fold (λ (n : ℕ) (x : Item). n + one_if (is_accepted x)) n W
+count_more n [] = omega arith
+count_more n (x ∷ W) = let later = count_more (n + one_if (is_accepted x)) W in omega arith
+
+pub built-front : (limits : Limits) (V W : List Item) → IsBuilt limits (V ++ W) → IsBuilt limits V
+built-front limits V W b =
+    let kinds = list_all-append is_built_item V W in
+    let one : accepted_count (V ++ W) ≡ fold (λ (n : ℕ) (x : Item). n + one_if (is_accepted x)) (accepted_count V) W =
+    fold-append (λ (n : ℕ) (x : Item). n + one_if (is_accepted x)) 0 V W in
+    let more = count_more (accepted_count V) W in
+    let out : length (child_out (V ++ W) 0) ≡ length (child_out V 0) + length (child_out W 0) =
+    ap (λ l. length l) (flat_map-append (output_heard 0) V W) ∙ length-append (child_out V 0) (child_out W 0) in
+    record {
+      kinds = (and_parts (list_all is_built_item V) (list_all is_built_item W) (sym kinds ∙ b.kinds)).0;
+      one = let b1 = b.one in omega arith;
+      output = let b2 = b.output in omega arith;
+    }
+
+-- ---- what is waited for is asked
+
+asked_from : (asked : Bool) (n m : ℕ) → n ≡ m + one_if asked → nat_lt m n ≡ true → asked ≡ true
+asked_from true n m e l = refl
+asked_from false n m e l = let f = ltb-true m n l in absurd (omega arith)
+
+is_zero : (k : ℕ) → (0 == k) ≡ true → 0 ≡ k
+is_zero k e = grind (arith, common_steps)
+
+no_answer : (core : Core) (x : Item) → is_shut 0 x ≡ false → is_want_client 0 x ≡ false → is_want_child 0 x ≡ false → StartsNone x →
+    (is_client_answer 0 x ≡ true → core.asked ≡ true) → (is_child_answer 0 x ≡ true → core.child.asked ≡ true) → Admits core x
+no_answer core x a b d none client child = record {
+  shut = λ h. absurd (let k : true ≡ false = cc in cc);
+  asks = λ h. absurd (let k : true ≡ false = cc in cc);
+  answers = client;
+  asks_child = λ h. absurd (let k : true ≡ false = cc in cc);
+  child_answers = child;
+  starts = inl none;
+}
+
+no_start : (event : Event) → StartsNone (In event)
+no_start event = record { number = refl; exchange = refl; start = refl }
+
+client_asked : (core : Core) (T : List Item) (c : ℕ) → Knows core T → client_wanted T c ≡ true → (0 == c) ≡ true → core.asked ≡ true
+client_asked core T c k w e =
+    let l : client_wanted T 0 ≡ true = subst (λ d. client_wanted T d ≡ true) (sym (is_zero c e)) w in
+    asked_from core.asked (count_by (is_want_client 0) T) (count_by (is_client_answer 0) T) k.asked l
+
+child_asked : (core : Core) (T : List Item) (c : ℕ) → Knows core T → child_wanted T c ≡ true → (0 == c) ≡ true → core.child.asked ≡ true
+child_asked core T c k w e =
+    let l : child_wanted T 0 ≡ true = subst (λ d. child_wanted T d ≡ true) (sym (is_zero c e)) w in
+    asked_from core.child.asked (count_by (is_want_child 0) T) (count_by (is_child_answer 0) T) k.child.asked l
+
+not_false : (b : Bool) → not b ≡ true → b ≡ false
+not_false true e = absurd (cc)
+not_false false e = refl
+
+asked_parts : (T : List Item) (c : ℕ) → is_asked T c ≡ true → (shut T c ≡ false) × (client_wanted T c ≡ true)
+asked_parts T c e =
+    let p = and_parts (not (shut T c) && not (upgraded T c)) (client_wanted T c) e in
+    (not_false (shut T c) (and_parts (not (shut T c)) (not (upgraded T c)) p.0).0, p.1)
+
+upgraded_parts : (T : List Item) (c : ℕ) → is_asked_upgraded T c ≡ true → client_wanted T c ≡ true
+upgraded_parts T c e = (and_parts (not (shut T c) && upgraded T c) (client_wanted T c) e).1
+
+output_parts : (T : List Item) (k : ℕ) → is_output_asked T k ≡ true → (output_ended T k ≡ false) × (child_wanted T k ≡ true)
+output_parts T k e =
+    let p = and_parts (started T k && not (output_ended T k)) (child_wanted T k) e in
+    (not_false (output_ended T k) (and_parts (started T k) (not (output_ended T k)) p.0).1, p.1)
+
+peel : (a : Bool) → (a || false) ≡ true → a ≡ true
+peel true e = refl
+peel false e = absurd (cc)
+
+admits : (core : Core) (T : List Item) (limit : ℕ) (ev : Event) → Knows core T → fits limit T ev ≡ true → Admits core (In ev)
+admits core T limit (ClientBytes c bytes) k fit =
+    no_answer core (In (ClientBytes c bytes)) refl refl refl (no_start (ClientBytes c bytes))
+    (λ e. client_asked core T c k (asked_parts T c (and_parts (is_asked T c) (is_piece bytes) fit).0).1 (peel _ (peel _ (peel _ (peel _ (peel _ e)))))) (λ h. absurd (cc))
+admits core T limit (ClientEof c) k fit =
+    no_answer core (In (ClientEof c)) refl refl refl (no_start (ClientEof c))
+    (λ e. client_asked core T c k (asked_parts T c fit).1 (peel _ (peel _ (peel _ (peel _ e))))) (λ h. absurd (cc))
+admits core T limit (WsText c bytes) k fit =
+    no_answer core (In (WsText c bytes)) refl refl refl (no_start (WsText c bytes))
+    (λ e. client_asked core T c k (upgraded_parts T c fit) (peel _ (peel _ (peel _ e)))) (λ h. absurd (cc))
+admits core T limit (WsBinary c) k fit =
+    no_answer core (In (WsBinary c)) refl refl refl (no_start (WsBinary c))
+    (λ e. client_asked core T c k (upgraded_parts T c fit) (peel _ (peel _ e))) (λ h. absurd (cc))
+admits core T limit (WsClosed c) k fit =
+    no_answer core (In (WsClosed c)) refl refl refl (no_start (WsClosed c))
+    (λ e. client_asked core T c k (upgraded_parts T c fit) (peel _ e)) (λ h. absurd (cc))
+admits core T limit (WsBad c) k fit =
+    no_answer core (In (WsBad c)) refl refl refl (no_start (WsBad c))
+    (λ e. client_asked core T c k (upgraded_parts T c fit) e) (λ h. absurd (cc))
+admits core T limit (ChildBytes c bytes) k fit =
+    no_answer core (In (ChildBytes c bytes)) refl refl refl (no_start (ChildBytes c bytes)) (λ h. absurd (cc))
+    (λ e. child_asked core T c k (output_parts T c (and_parts (is_output_asked T c) (is_piece bytes) fit).0).1 (peel _ (peel _ e)))
+admits core T limit (ChildEof c) k fit =
+    no_answer core (In (ChildEof c)) refl refl refl (no_start (ChildEof c)) (λ h. absurd (cc))
+    (λ e. child_asked core T c k (output_parts T c fit).1 (peel _ e))
+admits core T limit (ChildBroken c) k fit =
+    no_answer core (In (ChildBroken c)) refl refl refl (no_start (ChildBroken c)) (λ h. absurd (cc))
+    (λ e. child_asked core T c k (output_parts T c fit).1 e)
+admits core T limit ev k fit = no_answer core (In ev) refl refl refl (no_start ev) (λ h. absurd (cc)) (λ h. absurd (cc))
+
+-- ---- what was heard
+
+knows-heard : (core mid : Core) (T : List Item) (limit : ℕ) (ev : Event) → Knows core T → fits limit T ev ≡ true → Notes core (In ev) mid → Knows mid (T ++ In ev ∷ [])
+knows-heard core mid T limit ev k fit (inl same) = rw same (Knows-noted core T (In ev) k (admits core T limit ev k fit))
+knows-heard core mid T limit ev k fit (inr (heard, output, unshut, same)) =
+    rw same (Knows-losing_all (noted core (In ev)) (T ++ In ev ∷ []) heard output unshut (Knows-noted core T (In ev) k (admits core T limit ev k fit)))
+
+undecided-some : (y : Item) → is_undecided (outcome_by (Some y)) ≡ false
+undecided-some (In (ChildEof k)) = refl
+undecided-some _ = refl
+
+stop_decides : (x : Item) → is_stop x ≡ true → decides x ≡ true
+stop_decides x e = rw (e, or-true (is_child_eof 0 x)) refl
+
+calm-heard : (core mid : Core) (ev : Event) → calm core ≡ true → Notes core (In ev) mid → calm mid ≡ true
+calm-heard core mid ev h (inl same) =
+    rw same (calm-noted core.lost core.shut core.answered core.stopped core.unbuilt (is_stop (In ev)) (is_unbuilt core (In ev)) (decides (In ev)) core.child.begun core.child.outcome
+    (outcome_by (Some (In ev))) (undecided-some (In ev)) (stop_decides (In ev)) h)
+calm-heard core mid ev h (inr (heard, output, unshut, same)) = rw same refl
+
+-- an output that is the answer has ended, also where what isn't built decides
+dropped_unless : (core : Core) (ev : Event) → is_unbuilt core (In ev) ≡ true → is_output (outcome_by (Some (In ev))) ≡ true → is_output_end 0 (In ev) ≡ true
+dropped_unless core (ChildEof k) u o = absurd (cc)
+dropped_unless core ev u o = absurd (cc)
+
+by_output : (q e eof : Bool) → (q ≡ true → e ≡ true) → (not q || (e || eof)) ≡ true
+by_output true e eof f = rw (f refl) refl
+by_output false e eof f = refl
+
+keeps_or : (q e eof : Bool) → (not q || eof) ≡ true → (not q || (e || eof)) ≡ true
+keeps_or q e eof h = grind (arith, common_steps)
+
+ended-noted : (d e eof b : Bool) (o now : Outcome) → (d ≡ true → is_output now ≡ true → e ≡ true) → (not (is_output o) || eof) ≡ true →
+    (not (is_output (if d then decided b o now else o)) || (e || eof)) ≡ true
+ended-noted true e eof true Undecided now f h = by_output (is_output now) e eof (f refl)
+ended-noted true e eof true Output now f h = rw h (or-true e)
+ended-noted true e eof true Dropped now f h = refl
+ended-noted true e eof false o now f h = keeps_or (is_output o) e eof h
+ended-noted false e eof b o now f h = keeps_or (is_output o) e eof h
+
+output_eof : (u : Bool) (x : Item) → (u ≡ true → is_output (outcome_by (Some x)) ≡ true → is_output_end 0 x ≡ true) → (u || decides x) ≡ true →
+    is_output (outcome_by (Some x)) ≡ true → is_output_end 0 x ≡ true
+output_eof true x f d e = f refl e
+output_eof false (In (ChildEof k)) f d e = let z : (0 == k) ≡ true = peel _ (peel _ d) in rw z refl
+output_eof false _ f d e = absurd (cc)
+
+ended-heard : (core mid : Core) (ev : Event) → ended core ≡ true → Notes core (In ev) mid → ended mid ≡ true
+ended-heard core mid ev h (inl same) =
+    rw same (ended-noted (is_unbuilt core (In ev) || decides (In ev)) (is_output_end 0 (In ev)) core.child.output_ended core.child.begun core.child.outcome (outcome_by (Some (In ev)))
+    (output_eof (is_unbuilt core (In ev)) (In ev) (dropped_unless core ev)) h)
+ended-heard core mid ev h (inr (heard, output, unshut, same)) =
+    rw same (ended-noted (is_unbuilt core (In ev) || decides (In ev)) (is_output_end 0 (In ev)) core.child.output_ended core.child.begun core.child.outcome (outcome_by (Some (In ev)))
+    (output_eof (is_unbuilt core (In ev)) (In ev) (dropped_unless core ev)) h)
+
+-- ---- what is asked for
+
+notes_shut : (core mid : Core) (ev : Event) → Notes core (In ev) mid → mid.shut ≡ core.shut
+notes_shut core mid ev (inl same) = ap (λ (c : Core). c.shut) same
+notes_shut core mid ev (inr (heard, output, unshut, same)) = ap (λ (c : Core). c.shut) same
+
+notes_lost : (core mid : Core) (ev : Event) → Notes core (In ev) mid → mid.lost ≡ false → mid ≡ noted core (In ev)
+notes_lost core mid ev (inl same) l = same
+notes_lost core mid ev (inr (heard, output, unshut, same)) l = absurd (let e : mid.lost ≡ true = ap (λ (c : Core). c.lost) same in cc)
+
+unlost : (core mid : Core) (ev : Event) → Notes core (In ev) mid → core.shut ≡ true → mid ≡ noted core (In ev)
+unlost core mid ev (inl same) s = same
+unlost core mid ev (inr (heard, output, unshut, same)) s = absurd (cc)
+
+or_last : (a b c : Bool) → c ≡ true → (a || b || c) ≡ true
+or_last a b c e = grind (arith, common_steps)
+
+or_second : (a c : Bool) → (a || true || c) ≡ true
+or_second a c = grind (arith, common_steps)
+
+-- where the client's bytes are heard it was asked, so no child was begun
+apt_fresh : (s l b : Bool) (old new : Asked) → (s || l || apt_by true b old) ≡ true → (s || l || apt_by false b new) ≡ true
+apt_fresh s l b old new h = grind (arith, common_steps)
+
+apt_answered : (core : Core) (a : Bool) (piece : List ℕ) → (a ≡ true → core.asked ≡ true) → (a ≡ false → piece ≡ []) → apt core ≡ true →
+    (core.shut || core.lost || apt_by (asked_by false a core.asked) core.child.begun (asked core.request.site (more_unless core.shut piece core.request.bytes))) ≡ true
+apt_answered core true piece f g h =
+    apt_fresh core.shut core.lost core.child.begun (asks core) (asked core.request.site (more_unless core.shut piece core.request.bytes)) (rw (f refl) at h)
+apt_answered core false piece f g h = rw (g refl) h
+
+no_bytes : (ev : Event) → is_client_answer 0 (In ev) ≡ false → bytes_heard 0 (In ev) ≡ []
+no_bytes (ClientBytes c bytes) e = let z : (0 == c) ≡ false = grind (arith, common_steps) in rw z refl
+no_bytes _ e = refl
+
+apt-noted : (core : Core) (T : List Item) (limit : ℕ) (ev : Event) → Knows core T → fits limit T ev ≡ true → apt core ≡ true → apt (noted core (In ev)) ≡ true
+apt-noted core T limit ev k fit h =
+    apt_answered core (is_client_answer 0 (In ev)) (bytes_heard 0 (In ev)) ((admits core T limit ev k fit).answers) (no_bytes ev) h
+
+apt-heard : (core mid : Core) (T : List Item) (limit : ℕ) (ev : Event) → Knows core T → fits limit T ev ≡ true → apt core ≡ true → Notes core (In ev) mid → apt mid ≡ true
+apt-heard core mid T limit ev k fit h (inl same) = rw same (apt-noted core T limit ev k fit h)
+apt-heard core mid T limit ev k fit h (inr (heard, output, unshut, same)) = rw same (or_second core.shut _)
+
+-- ---- what the parts leave of the sites
+
+closed_by-site : (core : Core) (why : Option Why) → ((closed_by core why).site ≡ core.site) × ((closed_by core why).request ≡ core.request)
+closed_by-site core None = (refl, refl)
+closed_by-site core (Some NoMemory) = (refl, refl)
+closed_by-site core (Some _) = (refl, refl)
+
+begun-site : (core : Core) (launch : Option Launch) → ((begun_by core launch).site ≡ core.site) × ((begun_by core launch).request ≡ core.request)
+begun-site core None = (refl, refl)
+begun-site core (Some launch) = (refl, refl)
+
+going-site : (core : Core) (request : Asked) (found : Bool) → ((gone_on_by core request found).site ≡ core.site) × ((gone_on_by core request found).request ≡ core.request)
+going-site core More found = (refl, refl)
+going-site core (Script index host) true = begun-site core (launch_by core index host)
+going-site core (Script index host) false = (refl, refl)
+going-site core (Refused cause bare) found = (refl, refl)
+
+gone-site : (w : Bool) (core : Core) (found : Bool) → let n = (if w then gone_on_by core (asks core) found else core) in (n.site ≡ core.site) × (n.request ≡ core.request)
+gone-site true core found = going-site core (asks core) found
+gone-site false core found = (refl, refl)
+
+if-site : (w : Bool) (core : Core) → let n = (if w then record core { answered = is_some_text (due_answer core) || core.answered } else core) in (n.site ≡ core.site) × (n.request ≡ core.request)
+if-site true core = (refl, refl)
+if-site false core = (refl, refl)
+
+answered-site : (core : Core) (found : Bool) → ((answered core found).site ≡ core.site) × ((answered core found).request ≡ core.request)
+answered-site core true = if-site (is_open core) core
+answered-site core false = (refl, refl)
+
+handled-site : (core : Core) → ((handled core).site ≡ core.site) × ((handled core).request ≡ core.request)
+unfolding handled
+handled-site core = (refl, refl)
+
+before_going-site : (core : Core) (found : Bool) → let s = closed (handled (answered core found)) in (s.site ≡ core.site) × (s.request ≡ core.request)
+before_going-site core found =
+    let a = answered core found in
+    let p = closed_by-site (handled a) (due_why (handled a)) in
+    let h = handled-site a in
+    let q = answered-site core found in
+    (p.0 ∙ (h.0 ∙ q.0), p.1 ∙ (h.1 ∙ q.1))
+
+pub acted-site : (core : Core) (found begun : Bool) → ((acted core found begun).site ≡ core.site) × ((acted core found begun).request ≡ core.request)
+unfolding acted
+acted-site core found begun =
+    let d = closed (handled (answered core found)) in
+    let p = closed_by-site (gone_on d begun) (due_why (gone_on d begun)) in
+    let g = gone-site (is_waiting d) d begun in
+    let q = before_going-site core found in
+    (p.0 ∙ (g.0 ∙ q.0), p.1 ∙ (g.1 ∙ q.1))
+
+pub noted-site : (core mid : Core) (x : Item) → Notes core x mid → (mid.site ≡ core.site) × (mid.request.site ≡ core.request.site)
+noted-site core mid x (inl same) = (ap (λ (c : Core). c.site) same, ap (λ (c : Core). c.request.site) same)
+noted-site core mid x (inr (heard, output, unshut, same)) = (ap (λ (c : Core). c.site) same, ap (λ (c : Core). c.request.site) same)
+
+-- ---- what was heard of a connection that is shut, and of an output that has ended
+
+if_false : (b : Bool) (bytes : List ℕ) → (b ≡ true → ⊥) → (if b then bytes else []) ≡ []
+if_false true bytes f = absurd (f refl)
+if_false false bytes f = refl
+
+client_quiet : (T : List Item) (limit : ℕ) (ev : Event) → fits limit T ev ≡ true → shut T 0 ≡ true → bytes_heard 0 (In ev) ≡ []
+client_quiet T limit (ClientBytes c bytes) fit s =
+    if_false (0 == c) bytes (λ e. let f : shut T 0 ≡ false = subst (λ d. shut T d ≡ false) (sym (is_zero c e)) (asked_parts T c (and_parts (is_asked T c) (is_piece bytes) fit).0).0 in cc)
+client_quiet T limit ev fit s = refl
+
+child_quiet : (T : List Item) (limit : ℕ) (ev : Event) → fits limit T ev ≡ true → output_ended T 0 ≡ true → output_heard 0 (In ev) ≡ []
+child_quiet T limit (ChildBytes k bytes) fit s =
+    if_false (0 == k) bytes (λ e. let f : output_ended T 0 ≡ false = subst (λ d. output_ended T d ≡ false) (sym (is_zero k e)) (output_parts T k (and_parts (is_output_asked T k) (is_piece bytes) fit).0).0 in cc)
+child_quiet T limit ev fit s = refl
+
+after_heard : (f : Item → List ℕ) → ((a : Act) → f (Out a) ≡ []) → (T : List Item) (ev : Event) (acts : List Act) → flat_map f (after_step T ev acts) ≡ flat_map f (T ++ In ev ∷ [])
+after_heard f none T ev acts = ap (λ l. flat_map f l) (sym (append_assoc T (In ev ∷ []) (map Out acts))) ∙ heard-acts f none (T ++ In ev ∷ []) acts
+
+same_after : (f : Item → List ℕ) → ((a : Act) → f (Out a) ≡ []) → (T : List Item) (ev : Event) (acts : List Act) → f (In ev) ≡ [] → flat_map f (after_step T ev acts) ≡ flat_map f T
+same_after f none T ev acts e = after_heard f none T ev acts ∙ (flat_map-append f T (In ev ∷ []) ∙ rw e (append-nil (flat_map f T)))
+
+-- ---- small facts
+
+calm_shut : (l s r t b u : Bool) → (l || calm_by (s || r || t) b u) ≡ true → l ≡ false → s ≡ true → (b && u) ≡ false
+calm_shut l s r t b u h e f = grind (arith, common_steps)
+
+eof_by : (q e : Bool) → (not q || e) ≡ true → q ≡ true → e ≡ true
+eof_by q e h f = grind (arith, common_steps)
+
+and_true : (a b : Bool) → (a ≡ true → b ≡ true) → (a && b) ≡ a
+and_true true b f = f refl
+and_true false b f = refl
+
+true_or_false : (b : Bool) → (b ≡ true) ⊎ (b ≡ false)
+true_or_false true = inl refl
+true_or_false false = inr refl
+
+apt_script : (s l a b : Bool) (request : Asked) → (s || l || apt_by a b request) ≡ true → s ≡ false → l ≡ false → b ≡ true → is_script request ≡ true
+apt_script s l a b request h e f g = grind (arith, common_steps)
+
+given-shut : (mid : Core) (found : Bool) → mid.shut ≡ true → (found ≡ false → is_open mid ≡ true) → (found ≡ true) × (given_text mid found ≡ [])
+unfolding given_text
+given-shut mid true e f = (refl, ap (λ w. if w then text_by (due_answer mid) else []) (shut_open mid.shut mid.lost e))
+given-shut mid false e f = absurd (let a : is_open mid ≡ false = shut_open mid.shut mid.lost e in let b : is_open mid ≡ true = f refl in cc)
+
+given-open : (mid : Core) (found : Bool) → found ≡ true → is_open mid ≡ true → given_text mid found ≡ text_by (due_answer mid)
+unfolding given_text
+given-open mid true e o = ap (λ w. if w then text_by (due_answer mid) else []) o
+given-open mid false e o = absurd (cc)
+
+lost_some : (mid : Core) (begun : Bool) (t : Option (List ℕ)) → due_answer mid ≡ t → is_open mid ≡ true → (acted mid true begun).lost ≡ true → text_by t ≡ []
+lost_some mid begun None d o e = refl
+lost_some mid begun (Some text) d o e =
+    absurd (let a : mid.lost ≡ true = sym (answered-lost mid begun o (ap is_some_text d)) ∙ e in let b = (or_parts mid.shut mid.lost (not-true (mid.shut || mid.lost) o)).1 in cc)
+
+lost_if : (w : Bool) (mid : Core) (begun : Bool) → is_open mid ≡ w → (acted mid true begun).lost ≡ true → (if w then text_by (due_answer mid) else []) ≡ []
+lost_if true mid begun o e = lost_some mid begun (due_answer mid) refl o e
+lost_if false mid begun o e = refl
+
+lost_text : (mid : Core) (found begun : Bool) → (acted mid found begun).lost ≡ true → given_text mid found ≡ []
+unfolding given_text
+lost_text mid true begun e = lost_if (is_open mid) mid begun refl e
+lost_text mid false begun e = refl
+
+since-none : (test : Item → Bool) (V : List Item) → list_any test V ≡ false → since test V ≡ []
+since-none test [] e = refl
+since-none test (y ∷ V) e = let parts = or_parts (test y) (list_any test V) e in rw parts.0 (since-none test V parts.1)
+
+unbegun : (mid : Core) (V : List Item) → Knows mid V → mid.unbuilt ≡ false → mid.child.begun ≡ false → mid.child.outcome ≡ Undecided
+unbegun mid V k u b = k.child.outcome u ∙ ap (λ l. outcome_by (first decides l)) (since-none (is_start 0) V (sym k.child.begun ∙ b))
+
+-- ---- the replies
+
+module _ (core mid : Core) (T : List Item) (limit : ℕ) (ev : Event) (found begun : Bool)
+    (s : Stands core T) (fit : fits limit T ev ≡ true) (notes : Notes core (In ev) mid) (f : found ≡ false → is_open mid ≡ true)
+    (k : Knows mid (T ++ In ev ∷ []))
+    (n : Knows (acted mid found begun) (after_step T ev (acts_of mid found begun)))
+    (b : IsBuilt core.site.now.limits (after_step T ev (acts_of mid found begun))) where
+  built_before : IsBuilt core.site.now.limits T
+  built_before = built-front core.site.now.limits T (In ev ∷ map Out (acts_of mid found begun)) b
+
+  mid_site : mid.site ≡ core.site
+  mid_site = (noted-site core mid (In ev) notes).0
+
+  last_site : (acted mid found begun).site ≡ core.site
+  last_site = (acted-site mid found begun).0 ∙ mid_site
+
+  mid_built : mid.unbuilt ≡ false
+  mid_built =
+      k.built (rw mid_site (built-front core.site.now.limits (T ++ In ev ∷ []) (map Out (acts_of mid found begun)) (rw (append_assoc T (In ev ∷ []) (map Out (acts_of mid found begun))) b)))
+
+  last_built : (acted mid found begun).unbuilt ≡ false
+  last_built = n.built (rw last_site b)
+
+  end_same : core.shut ≡ true → acted mid found begun ≡ handled (noted core (In ev))
+  end_same c =
+      ap (λ v. acted mid v begun) (given-shut mid found (notes_shut core mid ev notes ∙ c) f).0
+      ∙ (acted-shut mid begun (notes_shut core mid ev notes ∙ c) ∙ ap handled (unlost core mid ev notes c))
+
+  out_same : core.shut ≡ true → client_out (after_step T ev (acts_of mid found begun)) 0 ≡ client_out T 0
+  out_same c =
+      client_out-step T ev mid found begun
+      ∙ (ap (λ l. client_out T 0 ++ l) (given-shut mid found (notes_shut core mid ev notes ∙ c) f).1 ∙ append-nil (client_out T 0))
+
+  whole_shut : core.shut ≡ true → (acted mid found begun).lost ≡ false →
+      client_out (after_step T ev (acts_of mid found begun)) 0 ≡ spelling (answer core.site.now (after_step T ev (acts_of mid found begun)) 0)
+  whole_shut c e =
+      let acts = acts_of mid found begun in
+      let U = after_step T ev acts in
+      let last = acted mid found begun in
+      let x = noted core (In ev) in
+      let site = core.site.now in
+      let same = end_same c in
+      let hs = handled-same x in
+      let d = is_unbuilt core (In ev) || decides (In ev) in
+      let now = outcome_by (Some (In ev)) in
+      let cl : core.lost ≡ false = sym (ap (λ (y : Core). y.lost) same ∙ hs.lost) ∙ e in
+      let r : client_out T 0 ≡ spelling (answer site T 0) = (s.replies built_before).whole (s.knows.lost ∙ rw cl refl) in
+      let bg : last.child.begun ≡ core.child.begun = ap (λ (y : Core). y.child.begun) same ∙ hs.begun in
+      let oT : outcome_of T ≡ core.child.outcome = sym (s.knows.child.outcome (s.knows.built built_before)) in
+      let oU : outcome_of U ≡ (if d then decided core.child.begun core.child.outcome now else core.child.outcome) =
+      sym (n.child.outcome last_built) ∙ (ap (λ (y : Core). y.child.outcome) same ∙ handled-outcome x) in
+      let i : client_in U 0 ≡ client_in T 0 = same_after (bytes_heard 0) (λ a. refl) T ev acts (client_quiet T limit ev fit (sym s.knows.shut ∙ c)) in
+      let h : is_output core.child.outcome ≡ true → child_out U 0 ≡ child_out T 0 =
+      λ p. same_after (output_heard 0) (λ a. refl) T ev acts
+      (child_quiet T limit ev fit (sym s.knows.child.output_ended ∙ eof_by (is_output core.child.outcome) core.child.output_ended s.ended p)) in
+      let aU : answer site U 0 ≡ model_by last.child.begun (outcome_of U) (asked site (client_in U 0)) (child_out U 0) = answer-is site U last.child.begun n.child.exchange b in
+      let uU : model_by last.child.begun (outcome_of U) (asked site (client_in U 0)) (child_out U 0)
+      ≡ model_by core.child.begun (if d then decided core.child.begun core.child.outcome now else core.child.outcome) (asked site (client_in T 0)) (child_out U 0) =
+      rw (bg, oU, i) refl in
+      let aT : answer site T 0 ≡ model_by core.child.begun core.child.outcome (asked site (client_in T 0)) (child_out T 0) =
+      answer-is site T core.child.begun s.knows.child.exchange built_before ∙ ap (λ o. model_by core.child.begun o (asked site (client_in T 0)) (child_out T 0)) oT in
+      let st = stable core.child.begun d core.child.outcome now (asked site (client_in T 0)) (child_out T 0) (child_out U 0)
+      (calm_shut core.lost core.shut core.answered (is_over core) core.child.begun (is_undecided core.child.outcome) s.calm cl c) h in
+      out_same c ∙ (r ∙ ap spelling (aT ∙ (sym st ∙ (sym uU ∙ sym aU))))
+
+  before_open : core.shut ≡ false → client_out T 0 ≡ []
+  before_open c = s.knows.written (unanswered_yet core s.closed c)
+
+  whole_open : core.shut ≡ false → (acted mid found begun).lost ≡ false →
+      client_out (after_step T ev (acts_of mid found begun)) 0 ≡ spelling (answer core.site.now (after_step T ev (acts_of mid found begun)) 0)
+  whole_open c e =
+      let acts = acts_of mid found begun in
+      let U = after_step T ev acts in
+      let last = acted mid found begun in
+      let site = core.site.now in
+      let w : Went mid last found = went mid found begun e in
+      let ms : mid.shut ≡ false = notes_shut core mid ev notes ∙ c in
+      let o : is_open mid ≡ true = rw (ms, w.lost) refl in
+      let out : client_out U 0 ≡ text_by (due_answer mid) = client_out-step T ev mid found begun ∙ rw (before_open c) (given-open mid found w.memory o) in
+      let i : client_in U 0 ≡ mid.request.bytes = after_heard (bytes_heard 0) (λ a. refl) T ev acts ∙ sym (k.heard ms w.lost) in
+      let h : child_out U 0 ≡ mid.child.output = after_heard (output_heard 0) (λ a. refl) T ev acts ∙ sym (k.output ms w.lost) in
+      let oc : outcome_of U ≡ mid.child.outcome = sym (n.child.outcome last_built) ∙ w.outcome in
+      let own : mid.request.site ≡ site = (noted-site core mid (In ev) notes).1 ∙ s.site in
+      let q : asked site (client_in U 0) ≡ asks mid = ap (asked site) i ∙ ap (λ x. asked x mid.request.bytes) (sym own) in
+      let aU : answer site U 0 ≡ model_by last.child.begun mid.child.outcome (asks mid) mid.child.output =
+      answer-is site U last.child.begun n.child.exchange b ∙ rw (oc, q, h) refl in
+      let a : apt mid ≡ true = apt-heard core mid T limit ev s.knows fit s.apt notes in
+      out ∙ elim w.begun as (λ _. text_by (due_answer mid) ≡ spelling (answer site U 0)) [
+        | inl same ↦
+            text-is mid.child.begun mid.child.outcome (asks mid) mid.child.output (λ p. apt_script mid.shut mid.lost mid.asked mid.child.begun (asks mid) a ms w.lost p)
+            ∙ (ap (λ v. spelling (model_by v mid.child.outcome (asks mid) mid.child.output)) (sym same) ∙ ap spelling (sym aU))
+        | inr p ↦
+            let un = unbegun mid (T ++ In ev ∷ []) k mid_built p.0 in
+            ap (λ v. text_by (answer_by v mid.child.outcome (asks mid) mid.child.output)) p.0
+            ∙ (no_text mid.child.outcome (asks mid) mid.child.output p.1
+            ∙ (sym (no_spelling last.child.begun (asks mid) mid.child.output p.1)
+            ∙ (ap (λ v. spelling (model_by last.child.begun v (asks mid) mid.child.output)) (sym un) ∙ ap spelling (sym aU))))
+      ]
+
+  nothing_shut : core.shut ≡ true → (acted mid found begun).lost ≡ true → client_out (after_step T ev (acts_of mid found begun)) 0 ≡ []
+  nothing_shut c e =
+      let cl : core.lost ≡ true = sym (ap (λ (y : Core). y.lost) (end_same c) ∙ (handled-same (noted core (In ev))).lost) ∙ e in
+      out_same c ∙ (s.replies built_before).nothing (s.knows.lost ∙ rw (cl, c) refl)
+
+  nothing_open : core.shut ≡ false → (acted mid found begun).lost ≡ true → client_out (after_step T ev (acts_of mid found begun)) 0 ≡ []
+  nothing_open c e = client_out-step T ev mid found begun ∙ rw (before_open c) (lost_text mid found begun e)
+
+replies-step : (core mid : Core) (T : List Item) (limit : ℕ) (ev : Event) (found begun : Bool) →
+    Stands core T → fits limit T ev ≡ true → Notes core (In ev) mid → (found ≡ false → is_open mid ≡ true) →
+    Knows mid (T ++ In ev ∷ []) →
+    Knows (acted mid found begun) (after_step T ev (acts_of mid found begun)) →
+    IsBuilt core.site.now.limits (after_step T ev (acts_of mid found begun)) →
+    Replies core.site.now (after_step T ev (acts_of mid found begun)) 0
+replies-step core mid T limit ev found begun s fit notes f k n b =
+    let last = acted mid found begun in
+    let U = after_step T ev (acts_of mid found begun) in
+    let l : shut_for_memory U 0 ≡ last.lost = n.lost ∙ and_true last.lost last.shut (lost_shut last (closed-acted mid found begun)) in
+    record {
+      whole = λ e. elim (true_or_false core.shut) as (λ _. client_out U 0 ≡ spelling (answer core.site.now U 0)) [
+        | inl c ↦ whole_shut core mid T limit ev found begun s fit notes f k n b c (sym l ∙ e)
+        | inr c ↦ whole_open core mid T limit ev found begun s fit notes f k n b c (sym l ∙ e)
+      ];
+      nothing = λ e. elim (true_or_false core.shut) as (λ _. client_out U 0 ≡ []) [
+        | inl c ↦ nothing_shut core mid T limit ev found begun s fit notes f k n b c (sym l ∙ e)
+        | inr c ↦ nothing_open core mid T limit ev found begun s fit notes f k n b c (sym l ∙ e)
+      ];
+    }
+
+-- ---- the step
+
+pub Stands-step : (core mid : Core) (T : List Item) (limit : ℕ) (ev : Event) (found begun : Bool) →
+    Stands core T → fits limit T ev ≡ true → Notes core (In ev) mid → (found ≡ false → is_open mid ≡ true) →
+    Stands (acted mid found begun) (after_step T ev (acts_of mid found begun))
+Stands-step core mid T limit ev found begun s fit notes f =
+    let last = acted mid found begun in
+    let U = after_step T ev (acts_of mid found begun) in
+    let ms = noted-site core mid (In ev) notes in
+    let bs = before_going-site mid found in
+    let as' = acted-site mid found begun in
+    let site : last.site ≡ core.site = as'.0 ∙ ms.0 in
+    let k = knows-heard core mid T limit ev s.knows fit notes in
+    let n : Knows last U = rw append_assoc at (Knows-acted mid (T ++ In ev ∷ []) found begun f k) in
+    let own : mid.request.site ≡ core.site.now = ms.1 ∙ s.site in
+    let rep : IsBuilt core.site.now.limits U → Replies core.site.now U 0 = replies-step core mid T limit ev found begun s fit notes f k n in
+    let launched : Launches core.site.now (step_of T ev (acts_of mid found begun)) =
+    launches-step core.site.now mid (T ++ In ev ∷ []) found begun f k (ap (λ x. x.now) (bs.0 ∙ ms.0)) (ap (λ r. r.site) bs.1 ∙ own) in
+    record {
+      knows = n;
+      good = rw site (Good-push core.site.now T ev (acts_of mid found begun) s.good (record { replies = rep; launches = λ b. launched }));
+      site = ap (λ r. r.site) as'.1 ∙ (own ∙ ap (λ x. x.now) (sym site));
+      limits = rw site s.limits;
+      calm = calm-acted mid found begun (calm-heard core mid ev s.calm notes);
+      ended = ended-acted mid found begun (ended-heard core mid ev s.ended notes);
+      closed = closed-acted mid found begun;
+      apt = apt-acted mid found begun (apt-heard core mid T limit ev s.knows fit s.apt notes);
+      replies = rw site rep;
+    }
+
+Some-injective : {A : Type 0} (a b : A) (o : Option A) → o ≡ Some a → o ≡ Some b → a ≡ b
+Some-injective a b o p q = cc
+
+pub Steps-from : (core mid : Core) (ev : Event) (found begun : Bool) (limit : ℕ) (before after : Option (List Item)) →
+    Notes core (In ev) mid → (found ≡ false → is_open mid ≡ true) → Adds before (acts_of mid found begun) after →
+    Steps core ev limit before (acted mid found begun) after
+Steps-from core mid ev found begun limit before after notes f adds T U s told fit told' =
+    let a = adds U told' in
+    let e : a.was ≡ T ++ In ev ∷ [] = Some-injective _ _ before a.told told in
+    let u : U ≡ after_step T ev (acts_of mid found begun) =
+    a.grew ∙ (ap (λ l. l ++ map Out (acts_of mid found begun)) e ∙ append_assoc T (In ev ∷ []) (map Out (acts_of mid found begun))) in
+    rw u (Stands-step core mid T limit ev found begun s fit notes f)
+
+-- ---- the beginning
+
+-- a core that has heard nothing
+abbrev pub fresh : Bor Site → Global → Core
+fresh site alloc = record {
+  site = site;
+  alloc = alloc;
+  peer = None;
+  request = record { site = site.now; bytes = [] };
+  stopped = false;
+  unbuilt = false;
+  shut = false;
+  lost = false;
+  answered = false;
+  asked = false;
+  child = record {
+    begun = false;
+    started = false;
+    refused = false;
+    exited = false;
+    input_ended = false;
+    output_ended = false;
+    killed = false;
+    asked = false;
+    outcome = Undecided;
+    output = [];
+    output_len = 0;
+  };
+}
+
+pub Knows-new : (site : Bor Site) (alloc : Global) → Knows (fresh site alloc) []
+Knows-new site alloc = record {
+  peer = refl;
+  stopped = refl;
+  shut = refl;
+  lost = refl;
+  heard = λ s l. refl;
+  output = λ s l. refl;
+  written = λ a. refl;
+  asked = refl;
+  built = λ b. refl;
+  child = record {
+    begun = refl;
+    numbers = refl;
+    exchange = refl;
+    started = refl;
+    refused = refl;
+    exited = refl;
+    input_ended = refl;
+    output_ended = refl;
+    killed = refl;
+    asked = refl;
+    outcome = λ u. refl;
+    output_len = λ u. refl;
+  };
+}
+
+pub Stands-new : (core : Core) → Knows core [] → core.request.site ≡ core.site.now → AreInRange core.site.now.limits →
+    asked core.site.now [] ≡ More → calm core ≡ true → ended core ≡ true → is_closed core ≡ true → apt core ≡ true → Stands core []
+Stands-new core k site limits more calm' ended' closed' apt' = record {
+  knows = k;
+  good = tt;
+  site = site;
+  limits = limits;
+  calm = calm';
+  ended = ended';
+  closed = closed';
+  apt = apt';
+  replies = λ b. record { whole = λ e. rw more refl; nothing = λ e. refl };
+}

@@ -1,0 +1,9 @@
+pub mod Built
+pub mod Answer
+pub mod Replies
+pub mod Launches
+pub mod Good
+pub mod Knows
+pub mod Texts
+pub mod Due
+pub mod Stands

@@ -1,0 +1,51 @@
+-- What a run gives back to its world.
+use Rattle.std.specs.Prelude.{ℕ, List, [], ◌∷◌, ◌++◌, ◌≡◌, ◌^◌, ◌⊎◌, Option, Some, None}
+use Rattle.std.specs.List.{AllByRecursion}
+use Rattle.host_base.specs.declared.site.Site.{Site}
+use Rattle.host_trace.specs.declared.items.Item.{Item}
+use Rattle.host_core.specs.Good.{Good}
+use Rattle.host_run.specs.OneScript.{site_of_one}
+use Rattle.host_run.specs.Served.{Served}
+use Rattle.host_run.specs.declared.serve.LoopEnd.{LoopEnd}
+use Rattle.host_run.specs.declared.serve.LoopEnd.TheVariants.{Done as LoopDone, Spent as LoopSpent, NoMemory as LoopNoMemory}
+use Rattle.host_run.specs.declared.top.Status.{Status}
+use Rattle.host_run.specs.declared.top.Status.TheVariants.{Done, Usage, SiteRefused, SiteUnread, WorldRefused, Spent, ReportFault, NoMemory}
+
+-- the traces given back in this call are good
+pub record GaveGood (site : Site) (before : Option (List (List Item))) (now : List (List Item)) : Type 0 where
+  pub was : List (List Item)
+  pub added : List (List Item)
+  pub told : before ≡ Some was
+  pub grew : now ≡ was ++ added
+  pub good : AllByRecursion (Good site) added
+
+abbrev pub GivesGood : Site → Option (List (List Item)) → Option (List (List Item)) → Type 0
+GivesGood site before after = (now : List (List Item)) → after ≡ Some now → GaveGood site before now
+
+-- .. of the site of a path and a program; without them nothing is given back
+abbrev pub GivesGoodBy : Option (List ℕ × List ℕ) → Option (List (List Item)) → Option (List (List Item)) → Type 0
+GivesGoodBy None before after = after ≡ before
+GivesGoodBy (Some parts) before after = GivesGood (site_of_one parts.0 parts.1) before after
+
+-- exactly one trace was given back in this call, and this is so of it by how its loop ended
+pub record GaveOne (end : LoopEnd) (before : Option (List (List Item))) (now : List (List Item)) : Type 0 where
+  pub was : List (List Item)
+  pub trace : List Item
+  pub told : before ≡ Some was
+  pub grew : now ≡ was ++ trace ∷ []
+  pub served : Served (2 ^ 62) end trace
+
+abbrev pub GivesOneBy : LoopEnd → Option (List (List Item)) → Option (List (List Item)) → Type 0
+GivesOneBy end before after = (now : List (List Item)) → after ≡ Some now → GaveOne end before now
+
+-- by the status: exactly one trace where the loop ended or was spent, none where there was no loop, none or
+-- an empty one where memory was wanting; the other statuses don't come
+abbrev pub GivesOne : Status → Option (List (List Item)) → Option (List (List Item)) → Type 0
+GivesOne Done before after = GivesOneBy LoopDone before after
+GivesOne Spent before after = GivesOneBy LoopSpent before after
+GivesOne NoMemory before after = (after ≡ before) ⊎ GivesOneBy LoopNoMemory before after
+GivesOne Usage before after = after ≡ before
+GivesOne WorldRefused before after = after ≡ before
+GivesOne (SiteRefused fault) before after = ⊥
+GivesOne SiteUnread before after = ⊥
+GivesOne ReportFault before after = ⊥

@@ -1,0 +1,11 @@
+pub mod Sums
+pub mod NextEvent
+pub mod ListedWords
+pub mod MemoryWords
+pub mod StoreWords
+pub mod WorldWords
+pub mod OneScript
+pub mod Served
+pub mod Words
+pub mod Given
+pub mod SinkWords

@@ -1,0 +1,4 @@
+pub mod FaultLaws
+pub mod NumberLaws
+pub mod ReadBackLaws
+pub mod ReadEndLaws

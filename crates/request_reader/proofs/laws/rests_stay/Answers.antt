@@ -1,0 +1,5 @@
+use Rattle.request_reader.proofs.ReadingLaws.{rests_stay}
+use Rattle.request_reader.proofs.laws.rests_stay.Goals as goal
+
+pub returns : goal.returns
+returns c = rests_stay

@@ -1,0 +1,5 @@
+use Rattle.request_reader.proofs.ReadingLaws.{wholes_are_requests}
+use Rattle.request_reader.proofs.laws.wholes_are_requests.Goals as goal
+
+pub returns : goal.returns
+returns c = wholes_are_requests

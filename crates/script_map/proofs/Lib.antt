@@ -1,0 +1,9 @@
+pub mod AuthorityLaws
+pub mod DecodingLaws
+pub mod ListLaws
+pub mod MappingLaws
+pub mod MappingRulesLaws
+pub mod PathLaws
+pub mod PathRulesLaws
+pub mod PlaceLaws
+pub mod TargetLaws

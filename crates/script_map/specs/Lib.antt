@@ -1,0 +1,11 @@
+pub mod Answers
+pub mod Authority
+pub mod AuthorityRules
+pub mod Bytes
+pub mod DotSegments
+pub mod Escapes
+pub mod Mapping
+pub mod MappingRules
+pub mod PathRules
+pub mod Targets
+pub mod Places
