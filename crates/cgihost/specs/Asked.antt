@@ -1,7 +1,9 @@
 -- What the outside of one connection hands up only where it was asked for.
-use Rattle.std.specs.Prelude.{ℕ, Bool, true, false, not, ◌&&◌, ◌==◌, Option, Some, None}
+use Rattle.std.specs.Prelude.{ℕ, ◌≡◌, Bool, true, false, not, ◌&&◌, ◌==◌, Option, Some, None}
 use Rattle.host_trace.specs.declared.items.Event.{Event}
 use Rattle.host_trace.specs.declared.items.Event.TheVariants.{ClientBytes, ClientEof, ClientGone, ChildBytes, ChildEof, Exited, NoRoom, Stop}
+use Rattle.host_trace.specs.declared.items.Act.{Act}
+use Rattle.host_trace.specs.declared.items.Act.TheVariants.{WantClient, Shut}
 use Rattle.cgihost.specs.declared.child.RealChild.{RealChild}
 use Rattle.cgihost.specs.declared.streams.Streams.{Streams}
 
@@ -36,3 +38,17 @@ is_asked_for s _ = true
 abbrev pub is_asked : {R : Type 0} → Streams R → Option Event → Bool
 is_asked s None = true
 is_asked s (Some event) = is_asked_for s event
+
+-- the acts after which the client is asked, and after which it is shut
+abbrev pub wants_client : Act → Bool
+wants_client (WantClient c) = true
+wants_client _ = false
+
+abbrev pub shuts : Act → Bool
+shuts (Shut c why) = true
+shuts _ = false
+
+-- the client is asked and shut as before
+pub record Keeps {R : Type 0} (old new : Streams R) : Type 0 where
+  pub wanted : new.client_wanted ≡ old.client_wanted
+  pub shut : new.shut ≡ old.shut

@@ -32,9 +32,9 @@ pub struct Streams<R> {
 }
 
 impl<R: Input + Print + Processes<Started = SystemProcess> + Drop> Streams<R> {
-    ghost use Rattle.std.specs.Prelude.{◌≡◌, true, false, is_some, IsNone, IfOk};
+    ghost use Rattle.std.specs.Prelude.{◌≡◌, ◌||◌, true, false, is_some, IsNone, IfOk};
     ghost use Rattle.cgihost.specs.OnceEvents.{is_once, is_once_event};
-    ghost use Rattle.cgihost.specs.Asked.{is_asked, is_asked_for, runs};
+    ghost use Rattle.cgihost.specs.Asked.{is_asked, is_asked_for, runs, wants_client, shuts, Keeps};
 
     /// A connection that was just accepted.
     pub fn new(rt: R, alloc: Global) -> Result<Self, NoMemory>
@@ -58,7 +58,10 @@ impl<R: Input + Print + Processes<Started = SystemProcess> + Drop> Streams<R> {
     // ---- acts
 
     /// Does an act. It keeps nothing that takes memory.
-    pub fn act(&mut self, act: &Act) {
+    pub fn act(&mut self, act: &Act)
+        ensures wanted { self.new.client_wanted ≡ (wants_client act.now || self.old.client_wanted) }
+        ensures shut { self.new.shut ≡ (shuts act.now || self.old.shut) }
+    {
         match act {
             Act::WantClient { .. } => self.client_wanted = true,
             Act::Write { bytes, .. } => self.write(bytes.as_slice()),
@@ -74,14 +77,18 @@ impl<R: Input + Print + Processes<Started = SystemProcess> + Drop> Streams<R> {
     }
 
     // Nothing follows a piece that was not written whole.
-    fn write(&mut self, bytes: &[u8]) {
+    fn write(&mut self, bytes: &[u8])
+        ensures { Keeps self.old self.new }
+    {
         if !self.client_gone && self.rt.write_all(bytes).is_err() {
             self.client_gone = true;
         }
     }
 
     // One child at a time: a program is not started while another runs.
-    fn start(&mut self, k: u64, launch: &Launch) {
+    fn start(&mut self, k: u64, launch: &Launch)
+        ensures { Keeps self.old self.new }
+    {
         if self.runs() {
             self.due = Some(Event::StartFailed { k });
             return;
