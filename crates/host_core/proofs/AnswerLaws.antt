@@ -13,9 +13,9 @@ use Rattle.first_path.specs.FirstOutput.{derived as derived_of}
 use Rattle.host_core.specs.Built.{IsBuilt}
 use Rattle.host_core.specs.Answer.{Answer, fault, none, undecided, answer, answer_of_output, answer_of_run, answer_of_child, answer_of_request, spelling}
 use Rattle.host_core.specs.Texts.{text_of_output}
-use Rattle.host_core.specs.Due.{answer_by, text_by, is_undecided}
+use Rattle.host_core.specs.Due.{answer_by, text_by, is_undecided, is_script}
 use Rattle.host_core.specs.Knows.{zero_if, decided, outcome_of}
-use Rattle.host_core.specs.Stands.{is_output, is_script}
+use Rattle.host_core.specs.Stands.{is_output}
 use Rattle.host_core.specs.declared.child.Outcome.{Outcome}
 use Rattle.host_core.specs.declared.child.Outcome.TheVariants.{Undecided, Output, Dropped}
 use Rattle.host_core.proofs.DeciderLaws.{outcome_said, outcome-built}

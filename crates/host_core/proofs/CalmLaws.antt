@@ -1,9 +1,9 @@
 -- What the parts of a step keep of the fields.
 use Rattle.std.proofs.Common.{◌≡◌, ℕ, List, Bool, true, false, ◌||◌, ◌&&◌, refl, sym, ◌∙◌, ap, arith, Option, Some, None, inl, inr}
 use Rattle.std.specs.Prelude.{if◌then◌else◌, not, ◌⊎◌, is_some}
-use Rattle.std.proofs.Math.Bool.{or-true}
 use Rattle.std.proofs.lemmas.Grind.{common_steps}
 use Rattle.host_base.specs.declared.launch.Launch.{Launch}
+use Rattle.host_trace.specs.Kinds.{is_no_memory}
 use Rattle.host_trace.specs.declared.items.Why.{Why}
 use Rattle.host_trace.specs.declared.items.Why.TheVariants.{Done, Gone, Cut, Idle, Full, Stopped, NoMemory}
 use Rattle.first_path.specs.declared.asked.Asked.{Asked}
@@ -13,8 +13,9 @@ use Rattle.host_core.specs.declared.child.Outcome.{Outcome}
 use Rattle.host_core.specs.declared.child.Outcome.TheVariants.{Undecided, Output, Dropped}
 use Rattle.host_core.specs.declared.machine.Core.{Core}
 use Rattle.host_core.specs.Knows.{decided}
-use Rattle.host_core.specs.Stands.{calm, calm_by, ended, is_closed, is_output, apt, apt_by, is_more, is_script}
-use Rattle.host_core.specs.Due.{asks, is_undecided, is_over, handled, closed, closed_by, due_why, why_of, gone_on, gone_on_by, is_waiting, answered, answer_by, due_answer, acted, is_open, is_some_text, launch_by, begun_by}
+use Rattle.host_core.specs.Stands.{calm, calm_by, ended, is_closed, is_output, apt, apt_by}
+use Rattle.host_core.specs.Answer.{is_unfinished}
+use Rattle.host_core.specs.Due.{asks, is_undecided, is_over, handled, closed, closed_by, due_why, why_of, gone_on, gone_on_by, is_waiting, answered, answer_by, due_answer, acted, is_open, is_some_text, launch_by, begun_by, is_script}
 use Rattle.host_core.proofs.ActsLaws.{due-memory, waiting_open}
 
 -- ---- closing closes
@@ -42,13 +43,13 @@ undecided-decided true Output now e = refl
 undecided-decided true Dropped now e = refl
 undecided-decided false o now e = refl
 
-pub calm-noted : (l s r t u st ub d b : Bool) (o now : Outcome) → is_undecided now ≡ false → (st ≡ true → d ≡ true) →
-    (l || calm_by (s || r || (t || u)) b (is_undecided o)) ≡ true →
-    (l || calm_by (s || r || ((st || t) || (ub || u))) b (is_undecided (if ub || d then decided b o now else o))) ≡ true
-calm-noted l s r t u st true d b o now n f h = let e = undecided-decided b o now n in grind (arith, common_steps)
-calm-noted l s r t u st false true b o now n f h = let e = undecided-decided b o now n in grind (arith, common_steps)
-calm-noted l s r t u true false false b o now n f h = absurd (let e : false ≡ true = f refl in cc)
-calm-noted l s r t u false false false b o now n f h = h
+pub calm-noted : (s r t u st ub d b : Bool) (o now : Outcome) → is_undecided now ≡ false → (st ≡ true → d ≡ true) →
+    calm_by (s || r || (t || u)) b (is_undecided o) ≡ true →
+    calm_by (s || r || ((st || t) || (ub || u))) b (is_undecided (if ub || d then decided b o now else o)) ≡ true
+calm-noted s r t u st true d b o now n f h = let e = undecided-decided b o now n in grind (arith, common_steps)
+calm-noted s r t u st false true b o now n f h = let e = undecided-decided b o now n in grind (arith, common_steps)
+calm-noted s r t u true false false b o now n f h = absurd (let e : false ≡ true = f refl in cc)
+calm-noted s r t u false false false b o now n f h = h
 
 -- an answer is given to what is decided or not begun
 undecided-answer : (b : Bool) (o : Outcome) (request : Asked) (output : List ℕ) → is_some_text (answer_by b o request output) ≡ true → (b && is_undecided o) ≡ false
@@ -57,41 +58,55 @@ undecided-answer true Output request output e = refl
 undecided-answer true Dropped request output e = refl
 undecided-answer false o request output e = refl
 
-calm-answer : (l s r t b u a : Bool) → (a ≡ true → (b && u) ≡ false) → (l || calm_by (s || r || t) b u) ≡ true → (l || calm_by (s || (a || r) || t) b u) ≡ true
-calm-answer l s r t b u true f h = let e = f refl in grind (arith, common_steps)
-calm-answer l s r t b u false f h = h
+calm-answer : (s r t b u a : Bool) → (a ≡ true → (b && u) ≡ false) → calm_by (s || r || t) b u ≡ true → calm_by (s || (a || r) || t) b u ≡ true
+calm-answer s r t b u true f h = let e = f refl in grind (arith, common_steps)
+calm-answer s r t b u false f h = h
 
 calm-if : (w : Bool) (core : Core) → calm core ≡ true → calm (if w then record core { answered = is_some_text (due_answer core) || core.answered } else core) ≡ true
 calm-if true core h =
-    calm-answer core.lost core.shut core.answered (is_over core) core.child.begun (is_undecided core.child.outcome) (is_some_text (due_answer core))
+    calm-answer core.shut core.answered (is_over core) core.child.begun (is_undecided core.child.outcome) (is_some_text (due_answer core))
     (undecided-answer core.child.begun core.child.outcome (asks core) core.child.output) h
 calm-if false core h = h
 
-calm-answered : (core : Core) (found : Bool) → calm core ≡ true → calm (answered core found) ≡ true
+pub calm-answered : (core : Core) (found : Bool) → calm core ≡ true → calm (answered core found) ≡ true
 calm-answered core true h = calm-if (is_open core) core h
-calm-answered core false h = refl
+calm-answered core false h = h
 
-calm-why : (s l t a r b : Bool) (o : Outcome) (why : Why) → why_of s l (t && a) r ≡ Some why → (l || calm_by (s || r || t) b (is_undecided o)) ≡ true → (l || calm_by true b (is_undecided o)) ≡ true
-calm-why true l t a r b o why e h = absurd (cc)
-calm-why false true t a r b o why e h = refl
-calm-why false false true true r b o why e h = grind (arith, common_steps)
-calm-why false false true false true b o why e h = grind (arith, common_steps)
-calm-why false false true false false b o why e h = absurd (cc)
-calm-why false false false a true b o why e h = h
-calm-why false false false a false b o why e h = absurd (cc)
+calm-why : (s l t a r b : Bool) (o : Outcome) (why : Why) → why_of s l (t && a) r ≡ Some why → l ≡ false → calm_by (s || r || t) b (is_undecided o) ≡ true → calm_by true b (is_undecided o) ≡ true
+calm-why true l t a r b o why e u h = absurd (cc)
+calm-why false true t a r b o why e u h = absurd (cc)
+calm-why false false true true r b o why e u h = grind (arith, common_steps)
+calm-why false false true false true b o why e u h = grind (arith, common_steps)
+calm-why false false true false false b o why e u h = absurd (cc)
+calm-why false false false a true b o why e u h = h
+calm-why false false false a false b o why e u h = absurd (cc)
 
-calm-shut : (core : Core) (why : Why) → due_why core ≡ Some why → calm core ≡ true → calm (record core { shut = true }) ≡ true
-calm-shut core why e h = calm-why core.shut core.lost (is_over core) (is_some core.peer) core.answered core.child.begun core.child.outcome why e h
+-- closed for another reason than want of memory, it wasn't lost
+pub not_lost : (l : Bool) (why : Why) (s t r : Bool) → why_of s l t r ≡ Some why → is_no_memory why ≡ false → l ≡ false
+not_lost true why true t r e n = absurd (cc)
+not_lost true why false t r e n = absurd (let w : NoMemory ≡ why = cc in let f : is_no_memory why ≡ true = ap is_no_memory (sym w) in cc)
+not_lost false why s t r e n = refl
+
+calm-shut : (core : Core) (why : Why) → due_why core ≡ Some why → is_no_memory why ≡ false → calm core ≡ true → calm (record core { shut = true }) ≡ true
+calm-shut core why e n h =
+    calm-why core.shut core.lost (is_over core) (is_some core.peer) core.answered core.child.begun core.child.outcome why e
+    (not_lost core.lost why core.shut (is_over core && is_some core.peer) core.answered e n) h
+
+calm-dropped : (b : Bool) (o : Outcome) → calm_by true b (is_undecided (decided b o Dropped)) ≡ true
+calm-dropped true Undecided = refl
+calm-dropped true Output = refl
+calm-dropped true Dropped = refl
+calm-dropped false o = refl
 
 calm-closed_by : (core : Core) (why : Option Why) → due_why core ≡ why → calm core ≡ true → calm (closed_by core why) ≡ true
 calm-closed_by core None e h = h
-calm-closed_by core (Some NoMemory) e h = rw (due-memory core.shut core.lost (is_over core && is_some core.peer) core.answered e) refl
-calm-closed_by core (Some Done) e h = calm-shut core Done e h
-calm-closed_by core (Some Gone) e h = calm-shut core Gone e h
-calm-closed_by core (Some (Cut cause)) e h = calm-shut core (Cut cause) e h
-calm-closed_by core (Some Idle) e h = calm-shut core Idle e h
-calm-closed_by core (Some Full) e h = calm-shut core Full e h
-calm-closed_by core (Some Stopped) e h = calm-shut core Stopped e h
+calm-closed_by core (Some NoMemory) e h = calm-dropped core.child.begun core.child.outcome
+calm-closed_by core (Some Done) e h = calm-shut core Done e refl h
+calm-closed_by core (Some Gone) e h = calm-shut core Gone e refl h
+calm-closed_by core (Some (Cut cause)) e h = calm-shut core (Cut cause) e refl h
+calm-closed_by core (Some Idle) e h = calm-shut core Idle e refl h
+calm-closed_by core (Some Full) e h = calm-shut core Full e refl h
+calm-closed_by core (Some Stopped) e h = calm-shut core Stopped e refl h
 
 -- who waits is not over
 pub waiting_calm : (s a b l t r : Bool) → not (s || not a || b) ≡ true → (s || not (l || t && a || r)) ≡ true → (s || r || t) ≡ false
@@ -99,12 +114,12 @@ waiting_calm s a b l t r w c = grind (arith, common_steps)
 
 calm-begun : (core : Core) (launch : Option Launch) → (core.shut || core.answered || is_over core) ≡ false → calm core ≡ true → calm (begun_by core launch) ≡ true
 calm-begun core None w h = h
-calm-begun core (Some launch) w h = rw w (or-true core.lost)
+calm-begun core (Some launch) w h = rw w refl
 
 calm-going : (core : Core) (request : Asked) (found : Bool) → (core.shut || core.answered || is_over core) ≡ false → calm core ≡ true → calm (gone_on_by core request found) ≡ true
 calm-going core More found w h = h
 calm-going core (Script index host) true w h = calm-begun core (launch_by core index host) w h
-calm-going core (Script index host) false w h = refl
+calm-going core (Script index host) false w h = h
 calm-going core (Refused cause bare) found w h = h
 
 calm-gone : (w : Bool) (core : Core) (found : Bool) → (w ≡ true → (core.shut || core.answered || is_over core) ≡ false) → calm core ≡ true →
@@ -204,7 +219,7 @@ or_last a b c e = grind (arith, common_steps)
 or_second : (a c : Bool) → (a || true || c) ≡ true
 or_second a c = grind (arith, common_steps)
 
-apt-more : (s l b : Bool) (request : Asked) → is_more request ≡ true → b ≡ false → (s || l || apt_by true b request) ≡ true
+apt-more : (s l b : Bool) (request : Asked) → is_unfinished request ≡ true → b ≡ false → (s || l || apt_by true b request) ≡ true
 apt-more s l b request m e = or_last s l (apt_by true b request) (rw (e, m) refl)
 
 apt_script : (s l a b : Bool) (request : Asked) → is_script request ≡ true → (s || l || apt_by a b request) ≡ true → (s || l || apt_by a true request) ≡ true
@@ -216,7 +231,7 @@ apt-begun core (Some launch) m s l h = apt_script core.shut core.lost core.asked
 
 apt-going : (core : Core) (request : Asked) (found : Bool) → asks core ≡ request → core.shut ≡ false → core.lost ≡ false → core.child.begun ≡ false → apt core ≡ true →
     apt (gone_on_by core request found) ≡ true
-apt-going core More found r s l b h = apt-more core.shut core.lost core.child.begun (asks core) (ap is_more r) b
+apt-going core More found r s l b h = apt-more core.shut core.lost core.child.begun (asks core) (ap is_unfinished r) b
 apt-going core (Script index host) true r s l b h = apt-begun core (launch_by core index host) (ap is_script r) s l h
 apt-going core (Script index host) false r s l b h = or_second core.shut (apt_by core.asked core.child.begun (asks core))
 apt-going core (Refused cause bare) found r s l b h = h
@@ -260,7 +275,7 @@ shut_waits : (s a b : Bool) → s ≡ true → not (s || a || b) ≡ false
 shut_waits true a b e = refl
 shut_waits false a b e = absurd (cc)
 
-gone-same : (core : Core) (found : Bool) → core.shut ≡ true → gone_on core found ≡ core
+pub gone-same : (core : Core) (found : Bool) → core.shut ≡ true → gone_on core found ≡ core
 gone-same core found e = ap (λ w. if w then gone_on_by core (asks core) found else core) (shut_waits core.shut (not (is_some core.peer)) core.child.begun e)
 
 pub shut_open : (s l : Bool) → s ≡ true → not (s || l) ≡ false

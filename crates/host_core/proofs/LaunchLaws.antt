@@ -17,14 +17,18 @@ use Rattle.first_path.specs.declared.asked.Asked.TheVariants.{More, Refused, Scr
 use Rattle.first_path.specs.FirstRequest.{asked}
 use Rattle.host_core.specs.declared.machine.Core.{Core}
 use Rattle.host_core.specs.Answer.{launch_for}
-use Rattle.host_core.specs.Launches.{IsRightAct, AllRight}
+use Rattle.host_core.specs.Acts.{AllActs}
+use Rattle.host_core.specs.Launches.{IsRightAct}
 use Rattle.host_core.specs.Knows.{Knows, zero_if}
 use Rattle.host_core.specs.Stands.{is_closed}
-use Rattle.host_core.specs.Due.{asks, is_over, is_input_due, is_kill_due, is_release_due, is_ask_due, input_given, kill_given, release_given, handled, handling, due_why, closed, shuts, answered, answering, is_open, due_answer, writes, gone_on, going_on, going_by, launch_by, starts, is_waiting, acts_of}
+use Rattle.host_core.specs.Due.{asks, is_over, is_input_due, is_kill_due, is_release_due, is_ask_due, input_given, kill_given, release_given, handled, handling, due_why, closed, shuts, answered, answering, is_open, is_answer_due, due_answer, writes, gone_on, going_on, going_by, launch_by, starts, is_waiting, acts_of}
 use Rattle.host_core.proofs.ActsLaws.{Knows-answered, Knows-handled, Knows-closed, waiting_open}
 use Rattle.host_core.proofs.CalmLaws.{closed-closed}
 
 -- ---- lists of acts
+
+abbrev pub AllRight : Site → List Item → List Act → Type 0
+AllRight site before acts = AllActs (IsRightAct site) before acts
 
 AllRight-append : (site : Site) (before : List Item) (a b : List Act) → AllRight site before a → AllRight site (before ++ map Out a) b → AllRight site before (a ++ b)
 AllRight-append site before [] b p q = rw (append-nil before) at q
@@ -110,7 +114,7 @@ append_map : (V : List Item) (a b : List Act) → (V ++ map Out a) ++ map Out b 
 append_map V a b = simp (map-append, append_assoc)
 
 -- the state of which the acts that start are given
-pub launches-step : (site : Site) (mid : Core) (V : List Item) (found begun : Bool) → (found ≡ false → is_open mid ≡ true) → Knows mid V →
+pub launches-step : (site : Site) (mid : Core) (V : List Item) (found begun : Bool) → (found ≡ false → is_answer_due mid ≡ true) → Knows mid V →
     (closed (handled (answered mid found))).site.now ≡ site → (closed (handled (answered mid found))).request.site ≡ site →
     AllRight site V (acts_of mid found begun)
 unfolding acts_of

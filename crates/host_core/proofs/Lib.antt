@@ -1,6 +1,16 @@
 pub mod KnowsLaws
 pub mod ActsLaws
+pub mod OnlyLaws
 pub mod CalmLaws
+pub mod SoundLaws
+pub mod HeardLaws
+pub mod FitLaws
+pub mod IdleLaws
+pub mod PickLaws
+pub mod ChildLaws
+pub mod ConnectionLaws
+pub mod FormLaws
+pub mod EndLaws
 pub mod DeciderLaws
 pub mod AnswerLaws
 pub mod ReplyLaws

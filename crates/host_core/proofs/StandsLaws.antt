@@ -1,17 +1,16 @@
 -- One step of a core that stands for a trace.
-use Rattle.std.proofs.Common.{◌≡◌, ℕ, ◌+◌, ◌≤◌, List, [], ◌∷◌, ◌++◌, Bool, true, false, ◌||◌, ◌&&◌, map, refl, sym, ◌∙◌, ap, subst, append_assoc, append-nil, arith, Option, Some, None, inl, inr, length, length-append}
-use Rattle.std.specs.Prelude.{if◌then◌else◌, not, count_by, ◌==◌, ◌⊎◌, nat_lt}
+use Rattle.std.proofs.Common.{◌≡◌, ℕ, lit≤, ◌+◌, ◌≤◌, List, [], ◌∷◌, ◌++◌, Bool, true, false, ◌||◌, ◌&&◌, map, refl, sym, ◌∙◌, ap, subst, append_assoc, append-nil, arith, Option, Some, None, inl, inr, length, length-append}
+use Rattle.std.specs.Prelude.{if◌then◌else◌, not, ◌==◌, ◌⊎◌}
 use Rattle.std.specs.List.{AllByRecursion, flat_map, fold, list_any, list_all}
 use Rattle.std.proofs.lemmas.List.Concat.{flat_map-append}
 use Rattle.std.proofs.lemmas.List.Folds.{list_all-append}
-use Rattle.std.proofs.Math.Bool.{or-true}
 use Rattle.std.proofs.lemmas.Bool.{or_parts, and_parts, ltb-true}
 use Rattle.std.proofs.lemmas.Grind.{common_steps, fold-append}
 use Rattle.host_base.specs.declared.limits.Limits.{Limits}
 use Rattle.host_base.specs.declared.site.Site.{Site}
 use Rattle.host_base.specs.LimitRanges.{AreInRange}
 use Rattle.host_trace.specs.declared.items.Event.{Event}
-use Rattle.host_trace.specs.declared.items.Event.TheVariants.{ClientBytes, ClientEof, ChildBytes, ChildEof, ChildBroken, WsText, WsBinary, WsClosed, WsBad}
+use Rattle.host_trace.specs.declared.items.Event.TheVariants.{ClientBytes, ChildBytes}
 use Rattle.host_trace.specs.declared.items.Act.{Act}
 use Rattle.host_trace.specs.declared.items.Why.{Why}
 use Rattle.host_trace.specs.declared.items.Why.TheVariants.{NoMemory}
@@ -19,30 +18,39 @@ use Rattle.host_base.specs.declared.launch.Launch.{Launch}
 use Rattle.host_trace.specs.declared.items.Item.{Item}
 use Rattle.host_trace.specs.declared.items.Item.TheVariants.{In, Out}
 use Rattle.host_trace.specs.First.{first, since}
-use Rattle.host_trace.specs.Kinds.{is_accepted, is_shut, is_want_client, is_client_answer, is_want_child, is_child_answer, is_stop, is_child_eof, is_output_end, is_start, bytes_heard, output_heard}
-use Rattle.host_trace.specs.Projections.{shut, shut_for_memory, client_in, client_out, child_out, client_wanted, child_wanted, output_ended, accepted_count, upgraded, started}
-use Rattle.host_trace.specs.Fits.{fits, is_asked, is_asked_upgraded, is_output_asked, is_piece}
+use Rattle.host_trace.specs.Kinds.{is_accepted, is_start, bytes_heard, output_heard}
+use Rattle.host_trace.specs.Projections.{shut, shut_for_memory, client_in, client_out, child_out, output_ended, accepted_count, is_known}
+use Rattle.host_trace.specs.Fits.{fits, is_asked, is_output_asked, is_piece}
 use Rattle.host_trace.specs.Trace.{step_of, after_step, steps}
 use Rattle.host_trace.specs.Told.{Adds}
 use Rattle.host_trace.proofs.StepLaws.{steps-append}
 use Rattle.first_path.specs.declared.asked.Asked.{Asked}
 use Rattle.first_path.specs.declared.asked.Asked.TheVariants.{More, Refused, Script}
 use Rattle.first_path.specs.FirstRequest.{asked}
-use Rattle.host_core.specs.declared.child.Outcome.{Outcome}
-use Rattle.host_core.specs.declared.child.Outcome.TheVariants.{Undecided, Output, Dropped}
+use Rattle.host_core.specs.declared.child.Outcome.TheVariants.{Undecided}
 use Rattle.host_core.specs.declared.machine.Core.{Core}
 use Rattle.std.proofs.Common.{Global, Bor}
 use Rattle.host_core.specs.Built.{IsBuilt, is_built_item}
 use Rattle.host_core.specs.Answer.{answer, spelling}
+use Rattle.host_core.specs.Delivery.{whole}
 use Rattle.host_core.specs.Replies.{Replies}
 use Rattle.host_core.specs.Launches.{Launches}
-use Rattle.host_core.specs.Good.{StepGood, Good}
-use Rattle.host_core.specs.Knows.{Knows, Admits, StartsNone, Notes, noted, one_if, outcome_of, outcome_by, decided, decides, is_unbuilt, asked_by, more_unless}
-use Rattle.host_core.specs.Due.{asks, acted, acts_of, is_open, is_over, is_undecided, closed, closed_by, due_why, handled, gone_on, gone_on_by, is_waiting, answered, is_some_text, due_answer, answer_by, text_by, launch_by, begun_by}
-use Rattle.host_core.specs.Stands.{Steps, Stands, calm, calm_by, is_output, ended, is_closed, apt, apt_by, is_script}
-use Rattle.host_core.proofs.KnowsLaws.{Knows-noted}
-use Rattle.host_core.proofs.ActsLaws.{not-true, Knows-acted, Knows-losing_all}
-use Rattle.host_core.proofs.CalmLaws.{shut_open, lost_shut, unanswered_yet, answered-lost, calm-noted, calm-acted, ended-acted, closed-acted, apt-acted, acted-shut, handled-same, handled-outcome, went, Went}
+use Rattle.host_core.specs.Demands.{is_child_of}
+use Rattle.host_core.specs.Ends.{Ends}
+use Rattle.host_core.specs.Good.{StepGood, BuiltGood, ConnectionGood, ChildGood, Good}
+use Rattle.host_core.specs.Knows.{Knows, Notes, noted, one_if, outcome_of, outcome_by, decided, decides, is_unbuilt}
+use Rattle.host_core.specs.Due.{asks, acted, acts_of, is_open, is_answer_due, is_over, is_undecided, closed, closed_by, due_why, handled, gone_on, gone_on_by, is_waiting, answered, is_some_text, is_start_due, due_answer, answer_by, text_by, launch_by, begun_by, is_script}
+use Rattle.host_core.specs.Stands.{Steps, Stands, calm_by, is_output, is_closed, apt, apt_by, alone, idle}
+use Rattle.host_core.proofs.SoundLaws.{born-acted, fresh-acted, doomed-acted, fed-acted, alone-acted, alone-answered, alone-handled, keeps-acted}
+use Rattle.host_core.proofs.IdleLaws.{idle-acted}
+use Rattle.host_core.proofs.OnlyLaws.{only_child}
+use Rattle.host_core.proofs.ChildLaws.{child_good}
+use Rattle.host_core.proofs.ConnectionLaws.{connection_good}
+use Rattle.host_core.proofs.FormLaws.{come-acts, ordered_acts}
+use Rattle.host_core.proofs.EndLaws.{ends, over_due}
+use Rattle.host_core.proofs.HeardLaws.{Sound, quiet-heard, sound-heard, alone-heard, knows-heard, calm-heard, ended-heard, apt-heard, is_zero, asked_parts, output_parts, notes_shut, unlost}
+use Rattle.host_core.proofs.ActsLaws.{not-true, due_open, Knows-acted}
+use Rattle.host_core.proofs.CalmLaws.{shut_open, lost_shut, unanswered_yet, answered-lost, calm-acted, ended-acted, closed-acted, apt-acted, acted-shut, handled-same, handled-outcome, went, Went}
 use Rattle.host_core.proofs.AnswerLaws.{model_by, answer-is, text-is, no_text, no_spelling, stable}
 use Rattle.host_core.proofs.ReplyLaws.{client_out-step, given_text, heard-acts}
 use Rattle.host_core.proofs.LaunchLaws.{launches-step}
@@ -77,186 +85,6 @@ built-front limits V W b =
       one = let b1 = b.one in omega arith;
       output = let b2 = b.output in omega arith;
     }
-
--- ---- what is waited for is asked
-
-asked_from : (asked : Bool) (n m : ℕ) → n ≡ m + one_if asked → nat_lt m n ≡ true → asked ≡ true
-asked_from true n m e l = refl
-asked_from false n m e l = let f = ltb-true m n l in absurd (omega arith)
-
-is_zero : (k : ℕ) → (0 == k) ≡ true → 0 ≡ k
-is_zero k e = grind (arith, common_steps)
-
-no_answer : (core : Core) (x : Item) → is_shut 0 x ≡ false → is_want_client 0 x ≡ false → is_want_child 0 x ≡ false → StartsNone x →
-    (is_client_answer 0 x ≡ true → core.asked ≡ true) → (is_child_answer 0 x ≡ true → core.child.asked ≡ true) → Admits core x
-no_answer core x a b d none client child = record {
-  shut = λ h. absurd (let k : true ≡ false = cc in cc);
-  asks = λ h. absurd (let k : true ≡ false = cc in cc);
-  answers = client;
-  asks_child = λ h. absurd (let k : true ≡ false = cc in cc);
-  child_answers = child;
-  starts = inl none;
-}
-
-no_start : (event : Event) → StartsNone (In event)
-no_start event = record { number = refl; exchange = refl; start = refl }
-
-client_asked : (core : Core) (T : List Item) (c : ℕ) → Knows core T → client_wanted T c ≡ true → (0 == c) ≡ true → core.asked ≡ true
-client_asked core T c k w e =
-    let l : client_wanted T 0 ≡ true = subst (λ d. client_wanted T d ≡ true) (sym (is_zero c e)) w in
-    asked_from core.asked (count_by (is_want_client 0) T) (count_by (is_client_answer 0) T) k.asked l
-
-child_asked : (core : Core) (T : List Item) (c : ℕ) → Knows core T → child_wanted T c ≡ true → (0 == c) ≡ true → core.child.asked ≡ true
-child_asked core T c k w e =
-    let l : child_wanted T 0 ≡ true = subst (λ d. child_wanted T d ≡ true) (sym (is_zero c e)) w in
-    asked_from core.child.asked (count_by (is_want_child 0) T) (count_by (is_child_answer 0) T) k.child.asked l
-
-not_false : (b : Bool) → not b ≡ true → b ≡ false
-not_false true e = absurd (cc)
-not_false false e = refl
-
-asked_parts : (T : List Item) (c : ℕ) → is_asked T c ≡ true → (shut T c ≡ false) × (client_wanted T c ≡ true)
-asked_parts T c e =
-    let p = and_parts (not (shut T c) && not (upgraded T c)) (client_wanted T c) e in
-    (not_false (shut T c) (and_parts (not (shut T c)) (not (upgraded T c)) p.0).0, p.1)
-
-upgraded_parts : (T : List Item) (c : ℕ) → is_asked_upgraded T c ≡ true → client_wanted T c ≡ true
-upgraded_parts T c e = (and_parts (not (shut T c) && upgraded T c) (client_wanted T c) e).1
-
-output_parts : (T : List Item) (k : ℕ) → is_output_asked T k ≡ true → (output_ended T k ≡ false) × (child_wanted T k ≡ true)
-output_parts T k e =
-    let p = and_parts (started T k && not (output_ended T k)) (child_wanted T k) e in
-    (not_false (output_ended T k) (and_parts (started T k) (not (output_ended T k)) p.0).1, p.1)
-
-peel : (a : Bool) → (a || false) ≡ true → a ≡ true
-peel true e = refl
-peel false e = absurd (cc)
-
-admits : (core : Core) (T : List Item) (limit : ℕ) (ev : Event) → Knows core T → fits limit T ev ≡ true → Admits core (In ev)
-admits core T limit (ClientBytes c bytes) k fit =
-    no_answer core (In (ClientBytes c bytes)) refl refl refl (no_start (ClientBytes c bytes))
-    (λ e. client_asked core T c k (asked_parts T c (and_parts (is_asked T c) (is_piece bytes) fit).0).1 (peel _ (peel _ (peel _ (peel _ (peel _ e)))))) (λ h. absurd (cc))
-admits core T limit (ClientEof c) k fit =
-    no_answer core (In (ClientEof c)) refl refl refl (no_start (ClientEof c))
-    (λ e. client_asked core T c k (asked_parts T c fit).1 (peel _ (peel _ (peel _ (peel _ e))))) (λ h. absurd (cc))
-admits core T limit (WsText c bytes) k fit =
-    no_answer core (In (WsText c bytes)) refl refl refl (no_start (WsText c bytes))
-    (λ e. client_asked core T c k (upgraded_parts T c fit) (peel _ (peel _ (peel _ e)))) (λ h. absurd (cc))
-admits core T limit (WsBinary c) k fit =
-    no_answer core (In (WsBinary c)) refl refl refl (no_start (WsBinary c))
-    (λ e. client_asked core T c k (upgraded_parts T c fit) (peel _ (peel _ e))) (λ h. absurd (cc))
-admits core T limit (WsClosed c) k fit =
-    no_answer core (In (WsClosed c)) refl refl refl (no_start (WsClosed c))
-    (λ e. client_asked core T c k (upgraded_parts T c fit) (peel _ e)) (λ h. absurd (cc))
-admits core T limit (WsBad c) k fit =
-    no_answer core (In (WsBad c)) refl refl refl (no_start (WsBad c))
-    (λ e. client_asked core T c k (upgraded_parts T c fit) e) (λ h. absurd (cc))
-admits core T limit (ChildBytes c bytes) k fit =
-    no_answer core (In (ChildBytes c bytes)) refl refl refl (no_start (ChildBytes c bytes)) (λ h. absurd (cc))
-    (λ e. child_asked core T c k (output_parts T c (and_parts (is_output_asked T c) (is_piece bytes) fit).0).1 (peel _ (peel _ e)))
-admits core T limit (ChildEof c) k fit =
-    no_answer core (In (ChildEof c)) refl refl refl (no_start (ChildEof c)) (λ h. absurd (cc))
-    (λ e. child_asked core T c k (output_parts T c fit).1 (peel _ e))
-admits core T limit (ChildBroken c) k fit =
-    no_answer core (In (ChildBroken c)) refl refl refl (no_start (ChildBroken c)) (λ h. absurd (cc))
-    (λ e. child_asked core T c k (output_parts T c fit).1 e)
-admits core T limit ev k fit = no_answer core (In ev) refl refl refl (no_start ev) (λ h. absurd (cc)) (λ h. absurd (cc))
-
--- ---- what was heard
-
-knows-heard : (core mid : Core) (T : List Item) (limit : ℕ) (ev : Event) → Knows core T → fits limit T ev ≡ true → Notes core (In ev) mid → Knows mid (T ++ In ev ∷ [])
-knows-heard core mid T limit ev k fit (inl same) = rw same (Knows-noted core T (In ev) k (admits core T limit ev k fit))
-knows-heard core mid T limit ev k fit (inr (heard, output, unshut, same)) =
-    rw same (Knows-losing_all (noted core (In ev)) (T ++ In ev ∷ []) heard output unshut (Knows-noted core T (In ev) k (admits core T limit ev k fit)))
-
-undecided-some : (y : Item) → is_undecided (outcome_by (Some y)) ≡ false
-undecided-some (In (ChildEof k)) = refl
-undecided-some _ = refl
-
-stop_decides : (x : Item) → is_stop x ≡ true → decides x ≡ true
-stop_decides x e = rw (e, or-true (is_child_eof 0 x)) refl
-
-calm-heard : (core mid : Core) (ev : Event) → calm core ≡ true → Notes core (In ev) mid → calm mid ≡ true
-calm-heard core mid ev h (inl same) =
-    rw same (calm-noted core.lost core.shut core.answered core.stopped core.unbuilt (is_stop (In ev)) (is_unbuilt core (In ev)) (decides (In ev)) core.child.begun core.child.outcome
-    (outcome_by (Some (In ev))) (undecided-some (In ev)) (stop_decides (In ev)) h)
-calm-heard core mid ev h (inr (heard, output, unshut, same)) = rw same refl
-
--- an output that is the answer has ended, also where what isn't built decides
-dropped_unless : (core : Core) (ev : Event) → is_unbuilt core (In ev) ≡ true → is_output (outcome_by (Some (In ev))) ≡ true → is_output_end 0 (In ev) ≡ true
-dropped_unless core (ChildEof k) u o = absurd (cc)
-dropped_unless core ev u o = absurd (cc)
-
-by_output : (q e eof : Bool) → (q ≡ true → e ≡ true) → (not q || (e || eof)) ≡ true
-by_output true e eof f = rw (f refl) refl
-by_output false e eof f = refl
-
-keeps_or : (q e eof : Bool) → (not q || eof) ≡ true → (not q || (e || eof)) ≡ true
-keeps_or q e eof h = grind (arith, common_steps)
-
-ended-noted : (d e eof b : Bool) (o now : Outcome) → (d ≡ true → is_output now ≡ true → e ≡ true) → (not (is_output o) || eof) ≡ true →
-    (not (is_output (if d then decided b o now else o)) || (e || eof)) ≡ true
-ended-noted true e eof true Undecided now f h = by_output (is_output now) e eof (f refl)
-ended-noted true e eof true Output now f h = rw h (or-true e)
-ended-noted true e eof true Dropped now f h = refl
-ended-noted true e eof false o now f h = keeps_or (is_output o) e eof h
-ended-noted false e eof b o now f h = keeps_or (is_output o) e eof h
-
-output_eof : (u : Bool) (x : Item) → (u ≡ true → is_output (outcome_by (Some x)) ≡ true → is_output_end 0 x ≡ true) → (u || decides x) ≡ true →
-    is_output (outcome_by (Some x)) ≡ true → is_output_end 0 x ≡ true
-output_eof true x f d e = f refl e
-output_eof false (In (ChildEof k)) f d e = let z : (0 == k) ≡ true = peel _ (peel _ d) in rw z refl
-output_eof false _ f d e = absurd (cc)
-
-ended-heard : (core mid : Core) (ev : Event) → ended core ≡ true → Notes core (In ev) mid → ended mid ≡ true
-ended-heard core mid ev h (inl same) =
-    rw same (ended-noted (is_unbuilt core (In ev) || decides (In ev)) (is_output_end 0 (In ev)) core.child.output_ended core.child.begun core.child.outcome (outcome_by (Some (In ev)))
-    (output_eof (is_unbuilt core (In ev)) (In ev) (dropped_unless core ev)) h)
-ended-heard core mid ev h (inr (heard, output, unshut, same)) =
-    rw same (ended-noted (is_unbuilt core (In ev) || decides (In ev)) (is_output_end 0 (In ev)) core.child.output_ended core.child.begun core.child.outcome (outcome_by (Some (In ev)))
-    (output_eof (is_unbuilt core (In ev)) (In ev) (dropped_unless core ev)) h)
-
--- ---- what is asked for
-
-notes_shut : (core mid : Core) (ev : Event) → Notes core (In ev) mid → mid.shut ≡ core.shut
-notes_shut core mid ev (inl same) = ap (λ (c : Core). c.shut) same
-notes_shut core mid ev (inr (heard, output, unshut, same)) = ap (λ (c : Core). c.shut) same
-
-notes_lost : (core mid : Core) (ev : Event) → Notes core (In ev) mid → mid.lost ≡ false → mid ≡ noted core (In ev)
-notes_lost core mid ev (inl same) l = same
-notes_lost core mid ev (inr (heard, output, unshut, same)) l = absurd (let e : mid.lost ≡ true = ap (λ (c : Core). c.lost) same in cc)
-
-unlost : (core mid : Core) (ev : Event) → Notes core (In ev) mid → core.shut ≡ true → mid ≡ noted core (In ev)
-unlost core mid ev (inl same) s = same
-unlost core mid ev (inr (heard, output, unshut, same)) s = absurd (cc)
-
-or_last : (a b c : Bool) → c ≡ true → (a || b || c) ≡ true
-or_last a b c e = grind (arith, common_steps)
-
-or_second : (a c : Bool) → (a || true || c) ≡ true
-or_second a c = grind (arith, common_steps)
-
--- where the client's bytes are heard it was asked, so no child was begun
-apt_fresh : (s l b : Bool) (old new : Asked) → (s || l || apt_by true b old) ≡ true → (s || l || apt_by false b new) ≡ true
-apt_fresh s l b old new h = grind (arith, common_steps)
-
-apt_answered : (core : Core) (a : Bool) (piece : List ℕ) → (a ≡ true → core.asked ≡ true) → (a ≡ false → piece ≡ []) → apt core ≡ true →
-    (core.shut || core.lost || apt_by (asked_by false a core.asked) core.child.begun (asked core.request.site (more_unless core.shut piece core.request.bytes))) ≡ true
-apt_answered core true piece f g h =
-    apt_fresh core.shut core.lost core.child.begun (asks core) (asked core.request.site (more_unless core.shut piece core.request.bytes)) (rw (f refl) at h)
-apt_answered core false piece f g h = rw (g refl) h
-
-no_bytes : (ev : Event) → is_client_answer 0 (In ev) ≡ false → bytes_heard 0 (In ev) ≡ []
-no_bytes (ClientBytes c bytes) e = let z : (0 == c) ≡ false = grind (arith, common_steps) in rw z refl
-no_bytes _ e = refl
-
-apt-noted : (core : Core) (T : List Item) (limit : ℕ) (ev : Event) → Knows core T → fits limit T ev ≡ true → apt core ≡ true → apt (noted core (In ev)) ≡ true
-apt-noted core T limit ev k fit h =
-    apt_answered core (is_client_answer 0 (In ev)) (bytes_heard 0 (In ev)) ((admits core T limit ev k fit).answers) (no_bytes ev) h
-
-apt-heard : (core mid : Core) (T : List Item) (limit : ℕ) (ev : Event) → Knows core T → fits limit T ev ≡ true → apt core ≡ true → Notes core (In ev) mid → apt mid ≡ true
-apt-heard core mid T limit ev k fit h (inl same) = rw same (apt-noted core T limit ev k fit h)
-apt-heard core mid T limit ev k fit h (inr (heard, output, unshut, same)) = rw same (or_second core.shut _)
 
 -- ---- what the parts leave of the sites
 
@@ -310,7 +138,7 @@ acted-site core found begun =
 
 pub noted-site : (core mid : Core) (x : Item) → Notes core x mid → (mid.site ≡ core.site) × (mid.request.site ≡ core.request.site)
 noted-site core mid x (inl same) = (ap (λ (c : Core). c.site) same, ap (λ (c : Core). c.request.site) same)
-noted-site core mid x (inr (heard, output, unshut, same)) = (ap (λ (c : Core). c.site) same, ap (λ (c : Core). c.request.site) same)
+noted-site core mid x (inr (heard, output, unshut, kept, same)) = (ap (λ (c : Core). c.site) same, ap (λ (c : Core). c.request.site) same)
 
 -- ---- what was heard of a connection that is shut, and of an output that has ended
 
@@ -336,8 +164,8 @@ same_after f none T ev acts e = after_heard f none T ev acts ∙ (flat_map-appen
 
 -- ---- small facts
 
-calm_shut : (l s r t b u : Bool) → (l || calm_by (s || r || t) b u) ≡ true → l ≡ false → s ≡ true → (b && u) ≡ false
-calm_shut l s r t b u h e f = grind (arith, common_steps)
+calm_shut : (s r t b u : Bool) → calm_by (s || r || t) b u ≡ true → s ≡ true → (b && u) ≡ false
+calm_shut s r t b u h f = grind (arith, common_steps)
 
 eof_by : (q e : Bool) → (not q || e) ≡ true → q ≡ true → e ≡ true
 eof_by q e h f = grind (arith, common_steps)
@@ -353,10 +181,10 @@ true_or_false false = inr refl
 apt_script : (s l a b : Bool) (request : Asked) → (s || l || apt_by a b request) ≡ true → s ≡ false → l ≡ false → b ≡ true → is_script request ≡ true
 apt_script s l a b request h e f g = grind (arith, common_steps)
 
-given-shut : (mid : Core) (found : Bool) → mid.shut ≡ true → (found ≡ false → is_open mid ≡ true) → (found ≡ true) × (given_text mid found ≡ [])
+given-shut : (mid : Core) (found : Bool) → mid.shut ≡ true → (found ≡ false → is_answer_due mid ≡ true) → (found ≡ true) × (given_text mid found ≡ [])
 unfolding given_text
 given-shut mid true e f = (refl, ap (λ w. if w then text_by (due_answer mid) else []) (shut_open mid.shut mid.lost e))
-given-shut mid false e f = absurd (let a : is_open mid ≡ false = shut_open mid.shut mid.lost e in let b : is_open mid ≡ true = f refl in cc)
+given-shut mid false e f = absurd (let a : is_open mid ≡ false = shut_open mid.shut mid.lost e in let b : is_open mid ≡ true = due_open mid (f refl) in cc)
 
 given-open : (mid : Core) (found : Bool) → found ≡ true → is_open mid ≡ true → given_text mid found ≡ text_by (due_answer mid)
 unfolding given_text
@@ -387,7 +215,7 @@ unbegun mid V k u b = k.child.outcome u ∙ ap (λ l. outcome_by (first decides 
 -- ---- the replies
 
 module _ (core mid : Core) (T : List Item) (limit : ℕ) (ev : Event) (found begun : Bool)
-    (s : Stands core T) (fit : fits limit T ev ≡ true) (notes : Notes core (In ev) mid) (f : found ≡ false → is_open mid ≡ true)
+    (s : Stands core T) (fit : fits limit T ev ≡ true) (notes : Notes core (In ev) mid) (f : found ≡ false → is_answer_due mid ≡ true)
     (k : Knows mid (T ++ In ev ∷ []))
     (n : Knows (acted mid found begun) (after_step T ev (acts_of mid found begun)))
     (b : IsBuilt core.site.now.limits (after_step T ev (acts_of mid found begun))) where
@@ -430,7 +258,7 @@ module _ (core mid : Core) (T : List Item) (limit : ℕ) (ev : Event) (found beg
       let d = is_unbuilt core (In ev) || decides (In ev) in
       let now = outcome_by (Some (In ev)) in
       let cl : core.lost ≡ false = sym (ap (λ (y : Core). y.lost) same ∙ hs.lost) ∙ e in
-      let r : client_out T 0 ≡ spelling (answer site T 0) = (s.replies built_before).whole (s.knows.lost ∙ rw cl refl) in
+      let r : client_out T 0 ≡ spelling (answer site T 0) = (s.replies built_before).answered (s.knows.lost ∙ rw cl refl) in
       let bg : last.child.begun ≡ core.child.begun = ap (λ (y : Core). y.child.begun) same ∙ hs.begun in
       let oT : outcome_of T ≡ core.child.outcome = sym (s.knows.child.outcome (s.knows.built built_before)) in
       let oU : outcome_of U ≡ (if d then decided core.child.begun core.child.outcome now else core.child.outcome) =
@@ -446,11 +274,17 @@ module _ (core mid : Core) (T : List Item) (limit : ℕ) (ev : Event) (found beg
       let aT : answer site T 0 ≡ model_by core.child.begun core.child.outcome (asked site (client_in T 0)) (child_out T 0) =
       answer-is site T core.child.begun s.knows.child.exchange built_before ∙ ap (λ o. model_by core.child.begun o (asked site (client_in T 0)) (child_out T 0)) oT in
       let st = stable core.child.begun d core.child.outcome now (asked site (client_in T 0)) (child_out T 0) (child_out U 0)
-      (calm_shut core.lost core.shut core.answered (is_over core) core.child.begun (is_undecided core.child.outcome) s.calm cl c) h in
+      (calm_shut core.shut core.answered (is_over core) core.child.begun (is_undecided core.child.outcome) s.calm c) h in
       out_same c ∙ (r ∙ ap spelling (aT ∙ (sym st ∙ (sym uU ∙ sym aU))))
 
   before_open : core.shut ≡ false → client_out T 0 ≡ []
   before_open c = s.knows.written (unanswered_yet core s.closed c)
+
+  wrote_open : core.shut ≡ false → (acted mid found begun).lost ≡ false → client_out (after_step T ev (acts_of mid found begun)) 0 ≡ text_by (due_answer mid)
+  wrote_open c e =
+      let w : Went mid (acted mid found begun) found = went mid found begun e in
+      let o : is_open mid ≡ true = rw (notes_shut core mid ev notes ∙ c, w.lost) refl in
+      client_out-step T ev mid found begun ∙ rw (before_open c) (given-open mid found w.memory o)
 
   whole_open : core.shut ≡ false → (acted mid found begun).lost ≡ false →
       client_out (after_step T ev (acts_of mid found begun)) 0 ≡ spelling (answer core.site.now (after_step T ev (acts_of mid found begun)) 0)
@@ -461,8 +295,7 @@ module _ (core mid : Core) (T : List Item) (limit : ℕ) (ev : Event) (found beg
       let site = core.site.now in
       let w : Went mid last found = went mid found begun e in
       let ms : mid.shut ≡ false = notes_shut core mid ev notes ∙ c in
-      let o : is_open mid ≡ true = rw (ms, w.lost) refl in
-      let out : client_out U 0 ≡ text_by (due_answer mid) = client_out-step T ev mid found begun ∙ rw (before_open c) (given-open mid found w.memory o) in
+      let out : client_out U 0 ≡ text_by (due_answer mid) = wrote_open c e in
       let i : client_in U 0 ≡ mid.request.bytes = after_heard (bytes_heard 0) (λ a. refl) T ev acts ∙ sym (k.heard ms w.lost) in
       let h : child_out U 0 ≡ mid.child.output = after_heard (output_heard 0) (λ a. refl) T ev acts ∙ sym (k.output ms w.lost) in
       let oc : outcome_of U ≡ mid.child.outcome = sym (n.child.outcome last_built) ∙ w.outcome in
@@ -486,59 +319,150 @@ module _ (core mid : Core) (T : List Item) (limit : ℕ) (ev : Event) (found beg
   nothing_shut : core.shut ≡ true → (acted mid found begun).lost ≡ true → client_out (after_step T ev (acts_of mid found begun)) 0 ≡ []
   nothing_shut c e =
       let cl : core.lost ≡ true = sym (ap (λ (y : Core). y.lost) (end_same c) ∙ (handled-same (noted core (In ev))).lost) ∙ e in
-      out_same c ∙ (s.replies built_before).nothing (s.knows.lost ∙ rw (cl, c) refl)
+      out_same c ∙ (s.replies built_before).wanting (s.knows.lost ∙ rw (cl, c) refl)
 
   nothing_open : core.shut ≡ false → (acted mid found begun).lost ≡ true → client_out (after_step T ev (acts_of mid found begun)) 0 ≡ []
   nothing_open c e = client_out-step T ev mid found begun ∙ rw (before_open c) (lost_text mid found begun e)
 
 replies-step : (core mid : Core) (T : List Item) (limit : ℕ) (ev : Event) (found begun : Bool) →
-    Stands core T → fits limit T ev ≡ true → Notes core (In ev) mid → (found ≡ false → is_open mid ≡ true) →
+    Stands core T → fits limit T ev ≡ true → Notes core (In ev) mid → (found ≡ false → is_answer_due mid ≡ true) →
     Knows mid (T ++ In ev ∷ []) →
     Knows (acted mid found begun) (after_step T ev (acts_of mid found begun)) →
     IsBuilt core.site.now.limits (after_step T ev (acts_of mid found begun)) →
-    Replies core.site.now (after_step T ev (acts_of mid found begun)) 0
+    Replies whole core.site.now (after_step T ev (acts_of mid found begun)) 0
 replies-step core mid T limit ev found begun s fit notes f k n b =
     let last = acted mid found begun in
     let U = after_step T ev (acts_of mid found begun) in
     let l : shut_for_memory U 0 ≡ last.lost = n.lost ∙ and_true last.lost last.shut (lost_shut last (closed-acted mid found begun)) in
     record {
-      whole = λ e. elim (true_or_false core.shut) as (λ _. client_out U 0 ≡ spelling (answer core.site.now U 0)) [
+      answered = λ e. elim (true_or_false core.shut) as (λ _. client_out U 0 ≡ spelling (answer core.site.now U 0)) [
         | inl c ↦ whole_shut core mid T limit ev found begun s fit notes f k n b c (sym l ∙ e)
         | inr c ↦ whole_open core mid T limit ev found begun s fit notes f k n b c (sym l ∙ e)
       ];
-      nothing = λ e. elim (true_or_false core.shut) as (λ _. client_out U 0 ≡ []) [
+      wanting = λ e. elim (true_or_false core.shut) as (λ _. client_out U 0 ≡ []) [
         | inl c ↦ nothing_shut core mid T limit ev found begun s fit notes f k n b c (sym l ∙ e)
         | inr c ↦ nothing_open core mid T limit ev found begun s fit notes f k n b c (sym l ∙ e)
       ];
     }
 
+-- ---- what is so of a step
+
+only_known : (U : List Item) (c : ℕ) → accepted_count U ≤ 1 → is_known U c ≡ true → c ≡ 0
+only_known U c few e = let f = ltb-true c (accepted_count U) e in omega arith
+
+notes_answered : (core mid : Core) (ev : Event) → Notes core (In ev) mid → mid.answered ≡ core.answered
+notes_answered core mid ev (inl same) = ap (λ (c : Core). c.answered) same
+notes_answered core mid ev (inr (heard, output, unshut, kept, same)) = ap (λ (c : Core). c.answered) same
+
+module _ (core mid : Core) (T : List Item) (limit : ℕ) (ev : Event) (found begun : Bool)
+    (s : Stands core T) (fit : fits limit T ev ≡ true) (notes : Notes core (In ev) mid)
+    (f : found ≡ false → is_answer_due mid ≡ true)
+    (f' : begun ≡ false → is_start_due (closed (handled (answered mid found))) ≡ true)
+    (k : Knows mid (T ++ In ev ∷ []))
+    (n : Knows (acted mid found begun) (after_step T ev (acts_of mid found begun))) where
+  sound_mid : Sound mid
+  sound_mid = sound-heard core mid T limit ev s fit notes
+
+  alone_mid : alone mid ≡ true
+  alone_mid = alone-heard core mid T limit ev s fit notes
+
+  own_mid : mid.request.site ≡ core.site.now
+  own_mid = (noted-site core mid (In ev) notes).1 ∙ s.site
+
+  own_both : mid.request.site ≡ mid.site.now
+  own_both = own_mid ∙ ap (λ x. x.now) (sym (noted-site core mid (In ev) notes).0)
+
+  end_closed : is_closed (acted mid found begun) ≡ true
+  end_closed = closed-acted mid found begun
+
+  end_idle : idle (acted mid found begun) ≡ true
+  end_idle = idle-acted mid found begun f alone_mid sound_mid.fresh own_both
+
+  first_connection : IsBuilt core.site.now.limits (after_step T ev (acts_of mid found begun)) → is_known (after_step T ev (acts_of mid found begun)) 0 ≡ true →
+      ConnectionGood core.site.now (step_of T ev (acts_of mid found begun)) 0
+  first_connection b known =
+      connection_good core.site.now mid T ev found begun f f' own_mid (notes_shut core mid ev notes ∙ s.knows.shut)
+      (λ e. notes_answered core mid ev notes ∙ unanswered_yet core s.closed (sym (notes_shut core mid ev notes) ∙ e))
+      (quiet-heard core mid T ev s notes)
+      (λ e l. wrote_open core mid T limit ev found begun s fit notes f k n b (sym (notes_shut core mid ev notes) ∙ e) l)
+      (replies-step core mid T limit ev found begun s fit notes f k n b) k n end_closed end_idle b
+      (mid_built core mid T limit ev found begun s fit notes f k n b) known
+
+  first_child : IsBuilt core.site.now.limits (after_step T ev (acts_of mid found begun)) → is_child_of (after_step T ev (acts_of mid found begun)) 0 0 ≡ true →
+      ChildGood core.site.now (step_of T ev (acts_of mid found begun)) 0 0
+  first_child b here =
+      child_good core.site.now mid T ev found begun s.limits sound_mid (calm-heard core mid ev s.calm notes) (ended-heard core mid ev s.ended notes) k n end_closed b
+      (mid_built core mid T limit ev found begun s fit notes f k n b) (last_built core mid T limit ev found begun s fit notes f k n b) here
+
+  launches : Launches core.site.now (step_of T ev (acts_of mid found begun))
+  launches =
+      let ms = noted-site core mid (In ev) notes in
+      let bs = before_going-site mid found in
+      launches-step core.site.now mid (T ++ In ev ∷ []) found begun f k (ap (λ x. x.now) (bs.0 ∙ ms.0)) (ap (λ r. r.site) bs.1 ∙ own_mid)
+
+  built_good : IsBuilt core.site.now.limits (after_step T ev (acts_of mid found begun)) → BuiltGood core.site.now (step_of T ev (acts_of mid found begun))
+  built_good b = record {
+    launches = launches;
+    form = record { each = come-acts mid (T ++ In ev ∷ []) found begun f k alone_mid; order = ordered_acts mid found begun };
+    connections = λ c known.
+        let z = only_known (after_step T ev (acts_of mid found begun)) c b.one known in
+        subst (λ c. ConnectionGood core.site.now (step_of T ev (acts_of mid found begun)) c) (sym z)
+        (first_connection b (subst (λ c. is_known (after_step T ev (acts_of mid found begun)) c ≡ true) z known));
+    children = λ c j here.
+        let i = only_child (after_step T ev (acts_of mid found begun)) c j n.first here in
+        subst (λ c. ChildGood core.site.now (step_of T ev (acts_of mid found begun)) c j) (sym i.connection)
+        (subst (λ j. ChildGood core.site.now (step_of T ev (acts_of mid found begun)) 0 j) (sym i.child)
+        (first_child b
+        (subst (λ j. is_child_of (after_step T ev (acts_of mid found begun)) 0 j ≡ true) i.child
+        (subst (λ c. is_child_of (after_step T ev (acts_of mid found begun)) c j ≡ true) i.connection here))));
+  }
+
+  end_good : (IsBuilt core.site.now.limits (after_step T ev (acts_of mid found begun)) → ⊥) → (b : Bool) → (acted mid found begun).unbuilt ≡ b → Ends (step_of T ev (acts_of mid found begun))
+  end_good none true u =
+      let v : mid.unbuilt ≡ true = sym (keeps-acted mid found begun).unbuilt ∙ u in
+      ends mid T ev found begun (over_due core mid T limit ev s fit notes v) (alone-handled (answered mid found) (alone-answered mid found f alone_mid)) v n end_closed
+  end_good none false u =
+      let site : (acted mid found begun).site ≡ core.site = (acted-site mid found begun).0 ∙ (noted-site core mid (In ev) notes).0 in
+      absurd (none (rw site at (n.rebuilt u)))
+
+  step_good : StepGood core.site.now (step_of T ev (acts_of mid found begun))
+  step_good = record { built = built_good; unbuilt = λ none. end_good none (acted mid found begun).unbuilt refl }
+
 -- ---- the step
 
 pub Stands-step : (core mid : Core) (T : List Item) (limit : ℕ) (ev : Event) (found begun : Bool) →
-    Stands core T → fits limit T ev ≡ true → Notes core (In ev) mid → (found ≡ false → is_open mid ≡ true) →
+    Stands core T → fits limit T ev ≡ true → Notes core (In ev) mid → (found ≡ false → is_answer_due mid ≡ true) → (begun ≡ false → is_start_due (closed (handled (answered mid found))) ≡ true) →
     Stands (acted mid found begun) (after_step T ev (acts_of mid found begun))
-Stands-step core mid T limit ev found begun s fit notes f =
+Stands-step core mid T limit ev found begun s fit notes f f' =
     let last = acted mid found begun in
     let U = after_step T ev (acts_of mid found begun) in
     let ms = noted-site core mid (In ev) notes in
-    let bs = before_going-site mid found in
     let as' = acted-site mid found begun in
     let site : last.site ≡ core.site = as'.0 ∙ ms.0 in
-    let k = knows-heard core mid T limit ev s.knows fit notes in
+    let k = knows-heard core mid T limit ev s.knows s.calm s.closed fit notes in
     let n : Knows last U = rw append_assoc at (Knows-acted mid (T ++ In ev ∷ []) found begun f k) in
     let own : mid.request.site ≡ core.site.now = ms.1 ∙ s.site in
-    let rep : IsBuilt core.site.now.limits U → Replies core.site.now U 0 = replies-step core mid T limit ev found begun s fit notes f k n in
-    let launched : Launches core.site.now (step_of T ev (acts_of mid found begun)) =
-    launches-step core.site.now mid (T ++ In ev ∷ []) found begun f k (ap (λ x. x.now) (bs.0 ∙ ms.0)) (ap (λ r. r.site) bs.1 ∙ own) in
+    let own' : mid.request.site ≡ mid.site.now = own ∙ ap (λ x. x.now) (sym ms.0) in
+    let x = sound-heard core mid T limit ev s fit notes in
+    let al = alone-heard core mid T limit ev s fit notes in
+    let cm = calm-heard core mid ev s.calm notes in
+    let ap' = apt-heard core mid T limit ev s.knows fit s.apt notes in
+    let rep : IsBuilt core.site.now.limits U → Replies whole core.site.now U 0 = replies-step core mid T limit ev found begun s fit notes f k n in
     record {
       knows = n;
-      good = rw site (Good-push core.site.now T ev (acts_of mid found begun) s.good (record { replies = rep; launches = λ b. launched }));
+      good = rw site (Good-push core.site.now T ev (acts_of mid found begun) s.good (step_good core mid T limit ev found begun s fit notes f f' k n));
       site = ap (λ r. r.site) as'.1 ∙ (own ∙ ap (λ x. x.now) (sym site));
       limits = rw site s.limits;
-      calm = calm-acted mid found begun (calm-heard core mid ev s.calm notes);
+      calm = calm-acted mid found begun cm;
       ended = ended-acted mid found begun (ended-heard core mid ev s.ended notes);
       closed = closed-acted mid found begun;
-      apt = apt-acted mid found begun (apt-heard core mid T limit ev s.knows fit s.apt notes);
+      apt = apt-acted mid found begun ap';
+      born = born-acted mid found begun x.born;
+      fresh = fresh-acted mid found begun x.fresh;
+      doomed = doomed-acted mid found begun x.doomed;
+      fed = fed-acted mid found begun;
+      alone = alone-acted mid found begun f al;
+      idle = idle-acted mid found begun f al x.fresh own';
       replies = rw site rep;
     }
 
@@ -546,14 +470,14 @@ Some-injective : {A : Type 0} (a b : A) (o : Option A) → o ≡ Some a → o �
 Some-injective a b o p q = cc
 
 pub Steps-from : (core mid : Core) (ev : Event) (found begun : Bool) (limit : ℕ) (before after : Option (List Item)) →
-    Notes core (In ev) mid → (found ≡ false → is_open mid ≡ true) → Adds before (acts_of mid found begun) after →
-    Steps core ev limit before (acted mid found begun) after
-Steps-from core mid ev found begun limit before after notes f adds T U s told fit told' =
+    Notes core (In ev) mid → (found ≡ false → is_answer_due mid ≡ true) → (begun ≡ false → is_start_due (closed (handled (answered mid found))) ≡ true) →
+    Adds before (acts_of mid found begun) after → Steps core ev limit before (acted mid found begun) after
+Steps-from core mid ev found begun limit before after notes f f' adds T U s short told fit told' =
     let a = adds U told' in
     let e : a.was ≡ T ++ In ev ∷ [] = Some-injective _ _ before a.told told in
     let u : U ≡ after_step T ev (acts_of mid found begun) =
     a.grew ∙ (ap (λ l. l ++ map Out (acts_of mid found begun)) e ∙ append_assoc T (In ev ∷ []) (map Out (acts_of mid found begun))) in
-    rw u (Stands-step core mid T limit ev found begun s fit notes f)
+    rw u (Stands-step core mid T limit ev found begun s fit notes f f')
 
 -- ---- the beginning
 
@@ -563,6 +487,7 @@ fresh site alloc = record {
   site = site;
   alloc = alloc;
   peer = None;
+  accepted = 0;
   request = record { site = site.now; bytes = [] };
   stopped = false;
   unbuilt = false;
@@ -585,7 +510,7 @@ fresh site alloc = record {
   };
 }
 
-pub Knows-new : (site : Bor Site) (alloc : Global) → Knows (fresh site alloc) []
+Knows-new : (site : Bor Site) (alloc : Global) → Knows (fresh site alloc) []
 Knows-new site alloc = record {
   peer = refl;
   stopped = refl;
@@ -596,6 +521,9 @@ Knows-new site alloc = record {
   written = λ a. refl;
   asked = refl;
   built = λ b. refl;
+  rebuilt = λ u. record { kinds = refl; one = lit≤ tt; output = omega arith };
+  first = refl;
+  accepted = λ f. refl;
   child = record {
     begun = refl;
     numbers = refl;
@@ -607,21 +535,32 @@ Knows-new site alloc = record {
     output_ended = refl;
     killed = refl;
     asked = refl;
+    answered = refl;
+    starts = refl;
+    answers = refl;
+    exits = refl;
+    eof = λ e. absurd (cc);
+    waited = λ e. refl;
     outcome = λ u. refl;
     output_len = λ u. refl;
   };
 }
 
-pub Stands-new : (core : Core) → Knows core [] → core.request.site ≡ core.site.now → AreInRange core.site.now.limits →
-    asked core.site.now [] ≡ More → calm core ≡ true → ended core ≡ true → is_closed core ≡ true → apt core ≡ true → Stands core []
-Stands-new core k site limits more calm' ended' closed' apt' = record {
-  knows = k;
+pub Stands-fresh : (site : Bor Site) (alloc : Global) → AreInRange site.now.limits → asked site.now [] ≡ More → Stands (fresh site alloc) []
+Stands-fresh site alloc limits more = record {
+  knows = Knows-new site alloc;
   good = tt;
-  site = site;
+  site = refl;
   limits = limits;
-  calm = calm';
-  ended = ended';
-  closed = closed';
-  apt = apt';
-  replies = λ b. record { whole = λ e. rw more refl; nothing = λ e. refl };
+  calm = refl;
+  ended = refl;
+  closed = refl;
+  apt = refl;
+  born = refl;
+  fresh = refl;
+  doomed = refl;
+  fed = refl;
+  alone = rw more refl;
+  idle = rw more refl;
+  replies = λ b. record { answered = λ e. rw more refl; wanting = λ e. refl };
 }

@@ -58,6 +58,19 @@ spelling (fault cause bare) = whole_text_of (fault_reply_of cause) bare true
 spelling none = []
 spelling undecided = []
 
+-- there is something to write
+abbrev pub is_final : Answer → Bool
+is_final (reply r) = true
+is_final (fault cause bare) = true
+is_final none = false
+is_final undecided = false
+
+-- the whole head has not come
+abbrev pub is_unfinished : Asked → Bool
+is_unfinished More = true
+is_unfinished (Refused cause bare) = false
+is_unfinished (Script index host) = false
+
 -- ---- what the child of that request is started with
 
 abbrev pub launch_for : Site → Option Peer → Asked → Option Launch

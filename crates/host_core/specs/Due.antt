@@ -1,8 +1,11 @@
 -- Which acts are due.
-use Rattle.std.specs.Prelude.{ℕ, List, [], ◌∷◌, ◌++◌, Bool, true, false, ◌&&◌, ◌||◌, not, Option, Some, None, is_some, if◌then◌else◌}
+use Rattle.std.specs.Prelude.{ℕ, ◌==◌, nat_lt, List, [], ◌∷◌, ◌++◌, Bool, true, false, ◌&&◌, ◌||◌, not, Option, Some, None, is_some, if◌then◌else◌}
 use Rattle.host_base.specs.declared.launch.Launch.{Launch}
 use Rattle.host_trace.specs.declared.items.Act.{Act}
 use Rattle.host_trace.specs.declared.items.Act.TheVariants.{Write, Shut, Start, WantClient, WantChild, EndInput, Kill, Release}
+use Rattle.host_trace.specs.declared.items.Event.{Event}
+use Rattle.host_trace.specs.declared.items.Event.TheVariants.{Accepted, ClientBytes, ClientEof, ClientGone, Wrote, Started, StartFailed, StartFull, ChildBytes, ChildEof, ChildBroken, Took, InputGone, Exited, WsText, WsBinary, WsClosed, WsBad, NoRoom, Tick, Stop}
+use Rattle.host_trace.specs.Fits.{is_piece}
 use Rattle.host_trace.specs.declared.items.Why.{Why}
 use Rattle.host_trace.specs.declared.items.Why.TheVariants.{Done, Stopped, NoMemory}
 use Rattle.host_trace.specs.Told.{when}
@@ -14,6 +17,7 @@ use Rattle.first_path.specs.FirstOutput.{derived}
 use Rattle.host_core.specs.Answer.{launch_for}
 use Rattle.reply_writer.specs.Spelling.{whole_text_of}
 use Rattle.reply_writer.specs.FaultReply.{fault_reply_of}
+use Rattle.host_core.specs.declared.child.Child.{Child}
 use Rattle.host_core.specs.declared.child.Outcome.{Outcome}
 use Rattle.host_core.specs.declared.child.Outcome.TheVariants.{Undecided, Output, Dropped}
 use Rattle.host_core.specs.declared.machine.Core.{Core}
@@ -74,9 +78,12 @@ abbrev pub text_by : Option (List ℕ) → List ℕ
 text_by None = []
 text_by (Some text) = text
 
--- whether an answer may be given
+-- whether an answer may be given, and whether there is one to give
 abbrev pub is_open : Core → Bool
 is_open core = not (core.shut || core.lost)
+
+abbrev pub is_answer_due : Core → Bool
+is_answer_due core = is_open core && is_some_text (due_answer core)
 
 -- what the core is after its answer, for which memory was found or not
 abbrev pub answered : Core → Bool → Core
@@ -116,6 +123,15 @@ closed core = closed_by core (due_why core)
 
 abbrev pub is_waiting : Core → Bool
 is_waiting core = not (core.shut || not (is_some core.peer) || core.child.begun)
+
+abbrev pub is_script : Asked → Bool
+is_script More = false
+is_script (Refused cause bare) = false
+is_script (Script index host) = true
+
+-- a script is to be started
+abbrev pub is_start_due : Core → Bool
+is_start_due core = is_waiting core && is_script (asks core)
 
 -- what the script of that place is started with, for the peer and the host
 abbrev pub launch_by : Core → ℕ → List ℕ → Option Launch
@@ -187,3 +203,45 @@ acts_of core found begun =
     let s = closed h in
     let n = gone_on s begun in
     answering core found ++ handling a ++ shuts (due_why h) ++ going_on s begun ++ shuts (due_why n)
+
+-- ---- which events fit
+
+-- the client was asked
+abbrev pub is_client_asked : Core → ℕ → Bool
+is_client_asked core c = 0 == c && not core.shut && core.asked
+
+-- the connection was accepted and is not shut
+abbrev pub is_client_open : Core → ℕ → Bool
+is_client_open core c = nat_lt c core.accepted && not (0 == c && core.shut)
+
+-- its Start was not answered
+abbrev pub is_start_open : Child → ℕ → Bool
+is_start_open child k = 0 == k && child.begun && not (child.started || child.refused)
+
+-- its output was asked for
+abbrev pub is_output_asked : Child → ℕ → Bool
+is_output_asked child k = 0 == k && child.started && not child.output_ended && child.asked
+
+-- whether the event fits, by what the core knows; nothing is fed, upgraded or left unsent on the first path
+abbrev pub fits_by : Core → Event → Bool
+fits_by core (Accepted peer) = not core.stopped
+fits_by core (ClientBytes c bytes) = is_client_asked core c && is_piece bytes
+fits_by core (ClientEof c) = is_client_asked core c
+fits_by core (ClientGone c) = is_client_open core c
+fits_by core (Wrote c n) = false
+fits_by core (Started k) = is_start_open core.child k
+fits_by core (StartFailed k) = is_start_open core.child k
+fits_by core (StartFull k seen) = is_start_open core.child k && seen == core.site.now.limits.children
+fits_by core (ChildBytes k bytes) = is_output_asked core.child k && is_piece bytes
+fits_by core (ChildEof k) = is_output_asked core.child k
+fits_by core (ChildBroken k) = is_output_asked core.child k
+fits_by core (Took k n) = false
+fits_by core (InputGone k) = 0 == k && core.child.started && not core.child.input_ended
+fits_by core (Exited k) = 0 == k && core.child.started && not core.child.exited
+fits_by core (WsText c bytes) = false
+fits_by core (WsBinary c) = false
+fits_by core (WsClosed c) = false
+fits_by core (WsBad c) = false
+fits_by core (NoRoom c) = is_client_open core c
+fits_by core Tick = true
+fits_by core Stop = not core.stopped

@@ -1,13 +1,13 @@
 -- What each Start of a step is.
-use Rattle.std.specs.Prelude.{ℕ, false, List, [], ◌∷◌, ◌++◌, ◌≡◌, Some}
+use Rattle.std.specs.Prelude.{ℕ, false, List, [], ◌≡◌, Some}
 use Rattle.host_base.specs.declared.launch.Launch.{Launch}
 use Rattle.host_base.specs.declared.site.Site.{Site}
 use Rattle.host_trace.specs.declared.items.Act.{Act}
 use Rattle.host_trace.specs.declared.items.Act.TheVariants.{Start}
 use Rattle.host_trace.specs.declared.items.Item.{Item}
-use Rattle.host_trace.specs.declared.items.Item.TheVariants.{In, Out}
 use Rattle.host_trace.specs.Projections.{start_count, children_of, stopped, shut}
 use Rattle.host_trace.specs.Trace.{Step}
+use Rattle.host_core.specs.Acts.{AllActs, heard_of}
 use Rattle.host_core.specs.Answer.{launch_due}
 
 -- Start k for exchange j of c after `hop` redirects stands after these items as it is to
@@ -24,10 +24,5 @@ abbrev pub IsRightAct : Site → List Item → Act → Type 0
 IsRightAct site before (Start k c j hop launch) = IsLaunch site before k c j hop launch
 IsRightAct site before _ = Unit {0}
 
--- each act, after those before it
-abbrev pub AllRight : Site → List Item → List Act → Type 0
-AllRight site before [] = Unit {0}
-AllRight site before (act ∷ acts) = IsRightAct site before act × AllRight site (before ++ Out act ∷ []) acts
-
 abbrev pub Launches : Site → Step → Type 0
-Launches site s = AllRight site (s.before ++ In s.event ∷ []) s.acts
+Launches site s = AllActs (IsRightAct site) (heard_of s) s.acts

@@ -1,7 +1,14 @@
 pub mod Built
 pub mod Answer
+pub mod Delivery
 pub mod Replies
+pub mod Acts
 pub mod Launches
+pub mod Demands
+pub mod Children
+pub mod Connections
+pub mod Form
+pub mod Ends
 pub mod Good
 pub mod Knows
 pub mod Texts

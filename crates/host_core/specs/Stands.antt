@@ -1,27 +1,67 @@
 -- What a core stands for at the end of a step.
-use Rattle.std.specs.Prelude.{ℕ, List, [], ◌∷◌, ◌++◌, ◌≡◌, Bool, true, false, Option, Some, not, ◌||◌, ◌&&◌, is_some}
+use Rattle.std.specs.Prelude.{ℕ, List, [], ◌∷◌, ◌++◌, ◌≡◌, ◌<◌, ◌^◌, Bool, true, false, Option, Some, not, ◌||◌, ◌&&◌, is_some}
 use Rattle.host_base.specs.LimitRanges.{AreInRange}
 use Rattle.host_trace.specs.declared.items.Event.{Event}
 use Rattle.host_trace.specs.declared.items.Item.{Item}
 use Rattle.host_trace.specs.declared.items.Item.TheVariants.{In}
 use Rattle.host_trace.specs.Fits.{fits}
+use Rattle.host_trace.specs.Projections.{event_count}
 use Rattle.first_path.specs.declared.asked.Asked.{Asked}
-use Rattle.first_path.specs.declared.asked.Asked.TheVariants.{More, Refused, Script}
 use Rattle.host_core.specs.Built.{IsBuilt}
 use Rattle.host_core.specs.Good.{Good}
 use Rattle.host_core.specs.Replies.{Replies}
 use Rattle.host_core.specs.Knows.{Knows}
-use Rattle.host_core.specs.Due.{is_undecided, is_over, asks}
+use Rattle.host_core.specs.Answer.{is_unfinished}
+use Rattle.host_core.specs.Delivery.{whole}
+use Rattle.host_core.specs.Due.{is_undecided, is_dropped, is_over, asks, is_some_text, due_answer, is_script}
 use Rattle.host_core.specs.declared.child.Outcome.{Outcome}
 use Rattle.host_core.specs.declared.child.Outcome.TheVariants.{Undecided, Output, Dropped}
 use Rattle.host_core.specs.declared.machine.Core.{Core}
 
--- unless it is lost, a connection that is shut, answered or over has no undecided child
+-- a connection that is shut, answered or over has no undecided child
 abbrev pub calm_by : Bool → Bool → Bool → Bool
 calm_by over begun undecided = not (over && begun && undecided)
 
 abbrev pub calm : Core → Bool
-calm core = core.lost || calm_by (core.shut || core.answered || is_over core) core.child.begun (is_undecided core.child.outcome)
+calm core = calm_by (core.shut || core.answered || is_over core) core.child.begun (is_undecided core.child.outcome)
+
+-- a child was begun before it was started or refused, and started before it exited
+abbrev pub born_by : Bool → Bool → Bool → Bool → Bool
+born_by begun started refused exited = (begun || not (started || refused)) && (started || not exited)
+
+abbrev pub born : Core → Bool
+born core = born_by core.child.begun core.child.started core.child.refused core.child.exited
+
+-- a child that wasn't begun isn't decided
+abbrev pub fresh : Core → Bool
+fresh core = core.child.begun || is_undecided core.child.outcome
+
+-- a child that was killed is no longer waited for
+abbrev pub doomed : Core → Bool
+doomed core = not core.child.killed || (core.lost || is_over core || is_dropped core.child.outcome)
+
+-- the input of a child that was started is ended
+abbrev pub fed : Core → Bool
+fed core = not core.child.started || core.child.input_ended
+
+-- .. or it has not exited yet
+abbrev pub fed_or_running : Core → Bool
+fed_or_running core = not core.child.started || core.child.input_ended || not core.child.exited
+
+-- before its client is there, nothing was asked, heard or done
+abbrev pub alone_by : Bool → Bool → Bool → Bool
+alone_by peer done more = peer || not done && more
+
+abbrev pub alone : Core → Bool
+alone core =
+    alone_by (is_some core.peer) (core.asked || core.child.begun || core.lost || core.answered || core.shut) (is_unfinished (asks core))
+
+-- an open connection has no answer that is due, and waits for its client or its child
+abbrev pub idle_by : Bool → Bool → Bool → Bool → Bool
+idle_by shut due more begun = shut || not due && (more || begun)
+
+abbrev pub idle : Core → Bool
+idle core = idle_by core.shut (is_some_text (due_answer core)) (is_unfinished (asks core)) core.child.begun
 
 -- a child whose output is the answer has ended it
 abbrev pub is_output : Outcome → Bool
@@ -36,19 +76,9 @@ ended core = not (is_output core.child.outcome) || core.child.output_ended
 abbrev pub is_closed : Core → Bool
 is_closed core = core.shut || not (core.lost || is_over core && is_some core.peer || core.answered)
 
-abbrev pub is_more : Asked → Bool
-is_more More = true
-is_more (Refused cause bare) = false
-is_more (Script index host) = false
-
-abbrev pub is_script : Asked → Bool
-is_script More = false
-is_script (Refused cause bare) = false
-is_script (Script index host) = true
-
 -- more is asked for only where the head isn't whole, and a child was begun only for a script
 abbrev pub apt_by : Bool → Bool → Asked → Bool
-apt_by asked begun request = (not asked || is_more request) && (not begun || is_script request)
+apt_by asked begun request = (not asked || is_unfinished request) && (not begun || is_script request)
 
 abbrev pub apt : Core → Bool
 apt core = core.shut || core.lost || apt_by core.asked core.child.begun (asks core)
@@ -62,8 +92,28 @@ pub record Stands (core : Core) (T : List Item) : Type 0 where
   pub ended : ended core ≡ true
   pub closed : is_closed core ≡ true
   pub apt : apt core ≡ true
-  pub replies : IsBuilt core.site.now.limits T → Replies core.site.now T 0
+  pub born : born core ≡ true
+  pub fresh : fresh core ≡ true
+  pub doomed : doomed core ≡ true
+  pub fed : fed core ≡ true
+  pub alone : alone core ≡ true
+  pub idle : idle core ≡ true
+  pub replies : IsBuilt core.site.now.limits T → Replies whole core.site.now T 0
 
--- a step of a core that stands for the trace: it stands for the trace with the step
+-- fewer than 2 ^ 62 steps went before
+abbrev pub IsShort : List Item → Type 0
+IsShort T = event_count T < 2 ^ 62
+
+-- a step of a core that stands for the trace, with an event that fits: it stands for the trace with the step
 abbrev pub Steps : Core → Event → ℕ → Option (List Item) → Core → Option (List Item) → Type 0
-Steps old event limit before new after = (T U : List Item) → Stands old T → before ≡ Some (T ++ In event ∷ []) → fits limit T event ≡ true → after ≡ Some U → Stands new U
+Steps old event limit before new after =
+    (T U : List Item) → Stands old T → IsShort T → before ≡ Some (T ++ In event ∷ []) → fits limit T event ≡ true → after ≡ Some U → Stands new U
+
+-- with an event that doesn't fit nothing changes, and no act is given
+pub record Unchanged {O : Type 0} (old new : Core) (before after : O) : Type 0 where
+  pub core : new ≡ old
+  pub outside : after ≡ before
+
+abbrev pub Ignores : {O : Type 0} → Core → Event → ℕ → Core → O → O → Type 0
+Ignores old event limit new before after =
+    (T : List Item) → Stands old T → IsShort T → fits limit T event ≡ false → Unchanged old new before after

@@ -12,6 +12,8 @@ ghost use Rattle.reply_writer.specs.Spelling.{whole_text_of};
 ghost use Rattle.reply_writer.specs.FaultReply.{fault_reply_of};
 ghost use Rattle.host_core.specs.Texts.{text_of_output};
 
+mod fit;
+
 use super::child::{Child, Outcome};
 use first_path::{Asked, Derived, FirstRequest, derive, launch};
 use host_base::{Bytes, Cause, Launch, NoMemory, Peer, Site, Text};
@@ -25,6 +27,8 @@ pub struct Core<'s> {
     site: &'s Site,
     alloc: Global,
     peer: Option<Peer>,
+    /// How many connections were accepted, as far as a u64 counts.
+    accepted: u64,
     request: FirstRequest<'s>,
     stopped: bool,
     /// An event was heard of a kind that is not built.
@@ -39,7 +43,7 @@ pub struct Core<'s> {
 }
 
 impl<'s> Core<'s> {
-    ghost use Rattle.std.specs.Prelude.{◌≡◌, ◌+◌, ◌<◌, ◌^◌, ℕ, List, [], ◌∷◌, ◌++◌, ◌||◌, Some, None, Option, true, false, IfOk, is_some, if◌then◌else◌};
+    ghost use Rattle.std.specs.Prelude.{◌≡◌, ◌+◌, ◌<◌, ◌^◌, ℕ, List, [], ◌∷◌, ◌++◌, ◌||◌, Some, None, Option, true, false, IfOk, OnErr, is_some, if◌then◌else◌};
     ghost use Rattle.host_base.specs.LimitRanges.{AreInRange};
     ghost use Rattle.host_trace.specs.declared.items.Item.{Item};
     ghost use Rattle.host_trace.specs.declared.items.Item.TheVariants.{In, Out};
@@ -51,8 +55,8 @@ impl<'s> Core<'s> {
     ghost use Rattle.host_core.specs.declared.child.Outcome.TheVariants.{Dropped};
     ghost use Rattle.host_core.specs.Built.{is_built_item};
     ghost use Rattle.host_core.specs.Knows.{Knows, Notes, site_of, noted, decided, counted};
-    ghost use Rattle.host_core.specs.Stands.{Stands, Steps};
-    ghost use Rattle.host_core.specs.Due.{asks, due_answer, text_by, is_input_due, is_kill_due, is_release_due, is_ask_due, input_given, kill_given, release_given, ask_given, due_why, is_waiting, is_open, closed, shuts, gone_on, going_on, answered, answering, handled, handling, acted, acts_of, launch_by, begun_by, starts, is_over};
+    ghost use Rattle.host_core.specs.Stands.{Stands, Steps, Ignores};
+    ghost use Rattle.host_core.specs.Due.{asks, due_answer, text_by, is_input_due, is_kill_due, is_release_due, is_ask_due, input_given, kill_given, release_given, ask_given, due_why, is_answer_due, is_start_due, is_some_text, fits_by, closed, shuts, gone_on, going_on, answered, answering, handled, handling, acted, acts_of, launch_by, begun_by, starts, is_over};
 
     /// A core that has heard nothing.
     pub fn new(alloc: Global, site: &'s Site) -> Result<Self, NoMemory>
@@ -64,6 +68,7 @@ impl<'s> Core<'s> {
             site,
             alloc,
             peer: None,
+            accepted: 0,
             request: FirstRequest::new(alloc, site),
             stopped: false,
             unbuilt: false,
@@ -102,8 +107,24 @@ impl<'s> Core<'s> {
         !child.begun || child.refused || child.exited && child.input_ended && child.output_ended
     }
 
-    /// One step: an event, and the acts that it makes due.
+    /// One step: an event, and the acts that it makes due. An event that doesn't fit what was heard and done
+    /// changes nothing, and no act is given. From the first event on of a kind that isn't built it acts as
+    /// after Stop.
     pub fn step<O: Outside>(&mut self, ev: Event, out: &mut O)
+        requires { O.limit out.old ≡ (site_of self.old).limits.children }
+        ensures stands { Steps self.old ev (O.limit out.old) (O.trace out.old) self.new (O.trace out.new) }
+        ensures ignores { Ignores self.old ev (O.limit out.old) self.new out.old out.new }
+        ensures told { AddsActs (O.trace out.old) (O.trace out.new) }
+        ensures site { site_of self.new ≡ site_of self.old }
+        ensures limit { O.limit out.new ≡ O.limit out.old }
+    {
+        if self.fits(&ev) {
+            self.take(ev, out);
+        }
+    }
+
+    // A step with an event that fits.
+    fn take<O: Outside>(&mut self, ev: Event, out: &mut O)
         ensures stands { Steps self.old ev (O.limit out.old) (O.trace out.old) self.new (O.trace out.new) }
         ensures told { AddsActs (O.trace out.old) (O.trace out.new) }
         ensures site { site_of self.new ≡ site_of self.old }
@@ -143,6 +164,7 @@ impl<'s> Core<'s> {
     fn hear_accepted(&mut self, peer: Peer)
         ensures { self.new ≡ noted self.old (In (Accepted peer)) }
     {
+        self.accepted = self.accepted.saturating_add(1);
         if self.peer.is_some() {
             self.end_built();
         } else {
@@ -238,7 +260,8 @@ impl<'s> Core<'s> {
     fn act<O: Outside>(&mut self, out: &mut O) -> (bool, bool)
         ensures core { self.new ≡ acted self.old result.0 result.1 }
         ensures told { Adds (O.trace out.old) (acts_of self.old result.0 result.1) (O.trace out.new) }
-        ensures open { result.0 ≡ false → is_open self.old ≡ true }
+        ensures answer { result.0 ≡ false → is_answer_due self.old ≡ true }
+        ensures start { result.1 ≡ false → is_start_due (closed (handled (answered self.old result.0))) ≡ true }
         ensures limit { O.limit out.new ≡ O.limit out.old }
     {
         let found = self.answer(out);
@@ -251,7 +274,8 @@ impl<'s> Core<'s> {
 
     // The text of the answer, where there is one.
     fn due_text(&self) -> Result<Option<Bytes>, NoMemory>
-        ensures { IfOk result (λ text. text ≡ due_answer self.now) }
+        ensures text { IfOk result (λ text. text ≡ due_answer self.now) }
+        ensures memory { OnErr result (is_some_text (due_answer self.now) ≡ true) }
     {
         if self.child.begun {
             match self.child.outcome {
@@ -270,7 +294,7 @@ impl<'s> Core<'s> {
     fn answer<O: Outside>(&mut self, out: &mut O) -> bool
         ensures core { self.new ≡ answered self.old result }
         ensures told { Adds (O.trace out.old) (answering self.old result) (O.trace out.new) }
-        ensures open { result ≡ false → is_open self.old ≡ true }
+        ensures due { result ≡ false → is_answer_due self.old ≡ true }
         ensures limit { O.limit out.new ≡ O.limit out.old }
     {
         if self.shut || self.lost {
@@ -411,7 +435,7 @@ impl<'s> Core<'s> {
     fn go_on<O: Outside>(&mut self, out: &mut O) -> bool
         ensures core { self.new ≡ gone_on self.old result }
         ensures told { Adds (O.trace out.old) (going_on self.old result) (O.trace out.new) }
-        ensures waiting { result ≡ false → is_waiting self.old ≡ true }
+        ensures due { result ≡ false → is_start_due self.old ≡ true }
         ensures limit { O.limit out.new ≡ O.limit out.old }
     {
         if self.shut || self.peer.is_none() || self.child.begun {

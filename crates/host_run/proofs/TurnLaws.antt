@@ -1,5 +1,6 @@
 -- One turn: an event, and a step of the core.
-use Rattle.std.proofs.Common.{◌≡◌, ℕ, ◌+◌, List, [], ◌∷◌, ◌++◌, Option, Some, cond, Bool, true, false, ◌&&◌, refl, ◌∙◌, ap, map, arith}
+use Rattle.std.proofs.Common.{◌≡◌, ℕ, ◌+◌, ◌<◌, ◌^◌, zero-add, append_assoc, List, [], ◌∷◌, ◌++◌, Option, Some, cond, Bool, true, false, ◌&&◌, refl, ◌∙◌, ap, map, arith}
+use Rattle.std.specs.Prelude.{if◌then◌else◌, count_by}
 use Rattle.std.specs.List.{fold}
 use Rattle.std.proofs.lemmas.Grind.{fold-append}
 use Rattle.host_trace.specs.declared.items.Act.{Act}
@@ -10,7 +11,11 @@ use Rattle.host_trace.specs.Kinds.{is_event}
 use Rattle.host_trace.specs.Told.{Hears, AddsActs}
 use Rattle.host_core.specs.declared.machine.Core.{Core}
 use Rattle.host_core.specs.Stands.{Stands, Steps}
-use Rattle.host_run.specs.Served.{event_count}
+use Rattle.host_trace.specs.Projections.{event_count}
+use Rattle.host_trace.specs.Trace.{after_step, step_of, end_of, steps}
+use Rattle.host_trace.proofs.FirstLaws.{count_by-push}
+use Rattle.host_trace.proofs.StepLaws.{steps-append}
+use Rattle.host_run.specs.Served.{is_over, over_count}
 
 count_from : (n : ℕ) (acts : List Act) → fold (λ (n : ℕ) (x : Item). n + cond (is_event x) 1 0) n (map Out acts) ≡ n
 count_from n [] = refl
@@ -23,19 +28,46 @@ counted T event acts =
     let f = λ (n : ℕ) (x : Item). n + cond (is_event x) 1 0 in
     fold-append f 0 (T ++ In event ∷ []) (map Out acts) ∙ (count_from _ acts ∙ fold-append f 0 T (In event ∷ []))
 
--- the core stands for what is told after the turn, which has one event more
-pub turned : (core new : Core) (limit limit' : ℕ) (before mid after : Option (List Item)) (ev : Event) (n : ℕ) →
+over_after : (T : List Item) (event : Event) (acts : List Act) → over_count T ≡ 0 →
+    over_count (after_step T event acts) ≡ (if is_over (after_step T event acts) then 1 else 0)
+over_after T event acts none =
+    ap (λ l. count_by (λ s. is_over (end_of s)) l) (steps-append T event acts)
+    ∙ (count_by-push (λ s. is_over (end_of s)) (steps T) (step_of T event acts)
+    ∙ (ap (λ n. n + (if is_over (after_step T event acts) then 1 else 0)) none ∙ zero-add (if is_over (after_step T event acts) then 1 else 0)))
+
+-- the core stands for what is told after the turn, which has one event more; it is over at most there
+pub record Turned (new : Core) (n : ℕ) (U : List Item) : Type 0 where
+  pub stands : Stands new U
+  pub count : event_count U ≡ n + 1
+  pub first : over_count U ≡ (if is_over U then 1 else 0)
+
+pub turned : (core new : Core) (limit limit' : ℕ) (before mid after : Option (List Item)) (ev : Event) (n : ℕ) → n < 2 ^ 62 →
     ((T : List Item) → before ≡ Some T → Stands core T) →
     ((T : List Item) → before ≡ Some T → event_count T ≡ n) →
+    ((T : List Item) → before ≡ Some T → over_count T ≡ 0) →
     Hears limit before ev mid → limit' ≡ limit → Steps core ev limit' mid new after → AddsActs mid after →
-    (U : List Item) → after ≡ Some U → Stands new U × (event_count U ≡ n + 1)
-turned core new limit limit' before mid after ev n stands count hears same steps adds U told =
+    (U : List Item) → after ≡ Some U → Turned new n U
+turned core new limit limit' before mid after ev n short stands count none hears same steps adds U told =
     let a = (adds U told).1 in
     let h = hears a.was a.told in
+    let acts = (adds U told).0 in
     let m : mid ≡ Some (h.was ++ In ev ∷ []) = a.told ∙ ap Some h.grew in
     let e : event_count U ≡ event_count h.was + 1 =
-    ap event_count a.grew ∙ (ap (λ w. event_count (w ++ map Out (adds U told).0)) h.grew ∙ counted h.was ev (adds U told).0) in
-    (steps h.was U (stands h.was h.told) m (rw same h.fits_then) told, e ∙ ap (λ k. k + 1) (count h.was h.told))
+    ap event_count a.grew ∙ (ap (λ w. event_count (w ++ map Out acts)) h.grew ∙ counted h.was ev acts) in
+    let u : U ≡ after_step h.was ev acts = a.grew ∙ (ap (λ w. w ++ map Out acts) h.grew ∙ append_assoc h.was (In ev ∷ []) (map Out acts)) in
+    let few : event_count h.was < 2 ^ 62 = rw (count h.was h.told) short in
+    record {
+      stands = steps h.was U (stands h.was h.told) few m (rw same h.fits_then) told;
+      count = e ∙ ap (λ k. k + 1) (count h.was h.told);
+      first = rw u (over_after h.was ev acts (none h.was h.told));
+    }
+
+-- where it isn't over it has never been
+pub never_over : (U : List Item) → over_count U ≡ (if is_over U then 1 else 0) → is_over U ≡ false → over_count U ≡ 0
+never_over U e f = e ∙ ap (λ b. if b then 1 else 0) f
+
+pub first_over : (U : List Item) → over_count U ≡ (if is_over U then 1 else 0) → is_over U ≡ true → over_count U ≡ 1
+first_over U e f = e ∙ ap (λ b. if b then 1 else 0) f
 
 pub not_settled : (a b : Bool) → b ≡ false → a && b ≡ false
 not_settled true b e = e

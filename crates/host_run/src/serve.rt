@@ -26,6 +26,7 @@ pub enum LoopEnd {
 pub fn serve_one<O: Outside>(alloc: Global, site: &Site, out: &mut O, turns: u64) -> LoopEnd
     requires turns { turns ≤ 2 ^ 62 }
     requires limits { AreInRange site.now.limits }
+    requires children { O.limit out.old ≡ site.now.limits.children }
     requires empty { (T : List Item) → O.trace out.old ≡ Some T → T ≡ [] }
     ensures good { (T : List Item) → O.trace out.new ≡ Some T → Good site.now T }
     ensures served { (T : List Item) → O.trace out.new ≡ Some T → Served turns result T }

@@ -1,19 +1,17 @@
--- A step of a core that stands for the trace.
-use Rattle.std.proofs.Common.{◌∙◌, ap}
-use Rattle.host_trace.specs.declared.items.Item.TheVariants.{In}
-use Rattle.host_core.specs.Due.{acts_of}
-use Rattle.host_core.proofs.StandsLaws.{Steps-from, acted-site, noted-site}
+-- A step with an event that fits, and one with an event that doesn't.
+use Rattle.host_core.proofs.FitLaws.{fits-same}
 use Rattle.host_core.proofs.machine.Core.step.Goals as goal
 
-pub returns-clause-stands : goal.returns-clause-stands
-returns-clause-stands g c =
-    rw c.act-given.ensures.core
-    (Steps-from c.args.self.now c.hear.new.self c.args.ev c.act-given.result.0 c.act-given.result.1 (g.O.Outside.limit c.args.out.now) _ _ c.hear.ensures.notes c.act-given.ensures.open c.act-given.ensures.told)
+pub returns-then-fits-clause-ignores : goal.returns-then-fits-clause-ignores
+returns-then-fits-clause-ignores g c = λ T s short e.
+    let same = fits-same c.args.self.now T c.args.ev s short in
+    let no = rw c.requires at e in
+    let yes = c.if-fits.ensures in
+    absurd (cc)
 
-pub returns-clause-site : goal.returns-clause-site
-returns-clause-site g c =
-    rw c.act-given.ensures.core
-    (ap (λ s. s.now) ((acted-site c.hear.new.self c.act-given.result.0 c.act-given.result.1).0 ∙ (noted-site c.args.self.now c.hear.new.self (In c.args.ev) c.hear.ensures.notes).0))
-
-pub returns-clause-told : goal.returns-clause-told
-returns-clause-told g c = λ now told. (acts_of c.hear.new.self c.act-given.result.0 c.act-given.result.1, c.act-given.ensures.told now told)
+pub returns-else-fits-clause-stands : goal.returns-else-fits-clause-stands
+returns-else-fits-clause-stands g c = λ T U s short told e after.
+    let same = fits-same c.args.self.now T c.args.ev s short in
+    let yes = rw c.requires at e in
+    let no = c.if-fits.ensures in
+    absurd (cc)
