@@ -2,7 +2,7 @@
 use Rattle.std.proofs.Common.{◌≡◌, ℕ, List, [], ◌++◌, Bool, true, false, ◌||◌, ◌&&◌, map, refl, ◌∙◌, subst, append_assoc, Option, Some, None, inl, inr}
 use Rattle.std.specs.Prelude.{if◌then◌else◌, not, is_some}
 use Rattle.std.proofs.lemmas.List.{map-append}
-use Rattle.std.proofs.lemmas.Bool.{or_parts, and_parts}
+use Rattle.std.proofs.lemmas.Bool.{or_parts, and_parts, not-true}
 use Rattle.std.proofs.Math.Bool.{and-false}
 use Rattle.host_base.specs.declared.launch.Launch.{Launch}
 use Rattle.host_trace.specs.declared.items.Why.{Why}
@@ -61,7 +61,7 @@ Knows-ask core V k =
       starts = inl (no_start (WantChild 0) refl refl refl);
     })
 
-append_map : (V : List Item) (a b : List Act) → (V ++ map Out a) ++ map Out b ≡ V ++ map Out (a ++ b)
+pub append_map : (V : List Item) (a b : List Act) → (V ++ map Out a) ++ map Out b ≡ V ++ map Out (a ++ b)
 append_map V a b = simp (map-append, append_assoc)
 
 pub Knows-handled : (core : Core) (V : List Item) → Knows core V → Knows (handled core) (V ++ map Out (handling core))
@@ -114,10 +114,6 @@ Knows-shut core V (Some Stopped) e k = Knows-noted core V (Out (Shut 0 Stopped))
 
 pub Knows-closed : (core : Core) (V : List Item) → Knows core V → Knows (closed core) (V ++ map Out (shuts (due_why core)))
 Knows-closed core V k = Knows-shut core V (due_why core) refl k
-
-pub not-true : (b : Bool) → not b ≡ true → b ≡ false
-not-true true e = absurd (cc)
-not-true false e = refl
 
 -- ---- want of memory
 

@@ -24,7 +24,7 @@ use Rattle.host_core.specs.Built.{IsBuilt, is_built_item}
 use Rattle.host_core.specs.Children.{Children}
 use Rattle.host_core.specs.Demands.{run, is_by_output, is_by_other, is_waited_out, ends_waiting, is_child_of, must_end_input, must_kill, must_release, must_ask}
 use Rattle.host_core.specs.Demands as Demand
-use Rattle.host_core.specs.Due.{is_undecided, is_open, is_some_text, due_answer, is_dropped, is_over, is_input_due, is_kill_due, is_release_due, is_ask_due, input_given, kill_given, release_given, answered, acted, acts_of}
+use Rattle.host_core.specs.Due.{is_undecided, is_dropped, is_over, is_input_due, is_kill_due, is_release_due, is_ask_due, input_given, kill_given, release_given, answered, acted, acts_of}
 use Rattle.host_core.specs.Good.{ChildGood}
 use Rattle.host_core.specs.Knows.{Knows, decided, ends, one_if}
 use Rattle.host_core.specs.Stands.{calm, calm_by, born_by, is_output, ended, is_closed}
@@ -35,7 +35,8 @@ use Rattle.host_core.proofs.HeardLaws.{Sound}
 use Rattle.host_core.proofs.FitLaws.{wanted_child}
 use Rattle.host_core.proofs.OnlyLaws.{no_upgrade, not_fed, count_none, any_append, by_parts, if_some, equal_swap}
 use Rattle.host_core.proofs.PickLaws.{picked_input, picked_kill, picked_release, picked_ask}
-use Rattle.host_core.proofs.SoundLaws.{child-answered, keeps-answered, keeps-acted, fed-acted, given-acted, begun_end}
+use Rattle.host_core.proofs.SoundLaws.{answered-lost, child-answered, keeps-answered, keeps-acted, fed-acted, given-acted, begun_end}
+use Rattle.std.proofs.Math.Bool.{or-true}
 
 -- ---- what the model says of an outcome
 
@@ -102,6 +103,10 @@ stood true v due last e f m = f ∙ (ap (λ d. d || v) (sym e) ∙ either v)
     either false = refl
 stood false v due last e f m = absurd (cc)
 
+if_same : (b : Bool) (o : Outcome) → (if b then o else o) ≡ o
+if_same true o = refl
+if_same false o = refl
+
 input_same : (st ex i q : Bool) → (not st || i || not ex) ≡ true → ((st && (not ex || q)) && not i) ≡ (st && not i)
 input_same true true true q h = grind (arith, common_steps)
 input_same true true false q h = absurd (cc)
@@ -120,30 +125,22 @@ kill_same true false false false true true r u w Undecided o' c n e f = absurd (
 kill_same true false false false true false r u w Undecided o' c n e f = absurd (let g = c refl in let h : calm_by (false || r || (true || u)) true true ≡ false = grind (arith, common_steps) in cc)
 kill_same true false false false false s r u w Undecided o' c n e f = rw (e refl, n) refl
 kill_same true false false l stp s r u w Output o' c n e f =
-    let g : o' ≡ Output = e refl ∙ if_same (l && not s) in
+    let g : o' ≡ Output = e refl ∙ if_same (l && not s) Output in
     let h : w ≡ (stp || l) = f refl (ap is_output g) in
     rw (g, h, n) (swap stp l)
   where
-    if_same : (b : Bool) → (if b then Output else Output) ≡ Output
-    if_same true = refl
-    if_same false = refl
-
     swap : (a b : Bool) → ((a || b) && true) ≡ ((b || (a || false) || false) && true && true)
     swap true true = refl
     swap true false = refl
     swap false true = refl
     swap false false = refl
 kill_same true false false l stp s r u w Dropped o' c n e f =
-    let g : o' ≡ Dropped = e refl ∙ if_same (l && not s) in
-    rw g (last_true (l || (stp || u)))
+    let g : o' ≡ Dropped = e refl ∙ if_same (l && not s) Dropped in
+    rw g (held (l || (stp || u)))
   where
-    if_same : (b : Bool) → (if b then Dropped else Dropped) ≡ Dropped
-    if_same true = refl
-    if_same false = refl
-
-    last_true : (a : Bool) → true ≡ (((a || true) && true) && true)
-    last_true true = refl
-    last_true false = refl
+    held : (a : Bool) → true ≡ (((a || true) && true) && true)
+    held true = refl
+    held false = refl
 
 release_same : (ex kd oe l stp s r u du : Bool) (o o' : Outcome) → (ex ≡ true → calm_by (s || r || (stp || u)) true (is_undecided o) ≡ true) → u ≡ false → (ex ≡ true → du ≡ false) →
     (ex ≡ true → o' ≡ (if l && not s then decided true o Dropped else o)) → (not kd || (l || (stp || u) || is_dropped o)) ≡ true → (not (is_output o) || oe) ≡ true →
@@ -152,15 +149,11 @@ release_same false kd oe l stp s r u du o o' c n d e k h = refl
 release_same true kd true l stp s r u du o o' c n d e k h = grind (arith, common_steps)
 release_same true kd false l stp s r u du Output o' c n d e k h = absurd (cc)
 release_same true kd false l stp s r u du Dropped o' c n d e k h =
-    let g : o' ≡ Dropped = e refl ∙ if_same (l && not s) in rw g (last_true (l || (stp || u)))
+    let g : o' ≡ Dropped = e refl ∙ if_same (l && not s) Dropped in rw g (held (l || (stp || u)))
   where
-    if_same : (b : Bool) → (if b then Dropped else Dropped) ≡ Dropped
-    if_same true = refl
-    if_same false = refl
-
-    last_true : (a : Bool) → true ≡ ((a || true) && true)
-    last_true true = refl
-    last_true false = refl
+    held : (a : Bool) → true ≡ ((a || true) && true)
+    held true = refl
+    held false = refl
 release_same true kd false true stp true r u du Undecided o' c n d e k h = absurd (let g : false ≡ true = c refl in cc)
 release_same true kd false true stp false r u du Undecided o' c n d e k h = rw (e refl) refl
 release_same true kd false false true s r u du Undecided o' c n d e k h =
@@ -173,22 +166,14 @@ ask_same : (st kU oU pend wd l stp s r u : Bool) (o o' : Outcome) → (st ≡ tr
     ((st && is_undecided o' && not kU && not oU && not pend) && not wd) ≡ (st && (not oU && not kU && not l && not (stp || u)) && is_undecided o && not wd)
 ask_same false kU oU pend wd l stp s r u o o' c n p e = refl
 ask_same true kU oU pend wd l stp s r u Output o' c n p e =
-    let g : o' ≡ Output = e refl ∙ if_same (l && not s) in rw g (none (not oU && not kU && not l && not (stp || u)) (not wd))
+    let g : o' ≡ Output = e refl ∙ if_same (l && not s) Output in rw g (none (not oU && not kU && not l && not (stp || u)) (not wd))
   where
-    if_same : (b : Bool) → (if b then Output else Output) ≡ Output
-    if_same true = refl
-    if_same false = refl
-
     none : (a b : Bool) → false ≡ (a && false && b)
     none true b = refl
     none false b = refl
 ask_same true kU oU pend wd l stp s r u Dropped o' c n p e =
-    let g : o' ≡ Dropped = e refl ∙ if_same (l && not s) in rw g (none (not oU && not kU && not l && not (stp || u)) (not wd))
+    let g : o' ≡ Dropped = e refl ∙ if_same (l && not s) Dropped in rw g (none (not oU && not kU && not l && not (stp || u)) (not wd))
   where
-    if_same : (b : Bool) → (if b then Dropped else Dropped) ≡ Dropped
-    if_same true = refl
-    if_same false = refl
-
     none : (a b : Bool) → false ≡ (a && false && b)
     none true b = refl
     none false b = refl
@@ -237,12 +222,8 @@ child_start [] e = absurd (cc)
 child_start (x ∷ T) e =
     let s : (list_any (λ d. d == 0) (child_started 0 x) || is_child_of T 0 0) ≡ true =
     sym (ap (λ l. list_any (λ d. d == 0) l) (flat_map-cons (child_started 0) x T) ∙ any_append (λ d. d == 0) (child_started 0 x) (children T 0)) ∙ e in
-    by_parts (list_any (λ d. d == 0) (child_started 0 x)) (is_child_of T 0 0) s (λ h. rw (start_here x h) refl) (λ h. rw (child_start T h) (last_true (is_start 0 x)))
+    by_parts (list_any (λ d. d == 0) (child_started 0 x)) (is_child_of T 0 0) s (λ h. rw (start_here x h) refl) (λ h. rw (child_start T h) (or-true (is_start 0 x)))
   where
-    last_true : (a : Bool) → (a || true) ≡ true
-    last_true true = refl
-    last_true false = refl
-
     start_here : (x : Item) → list_any (λ d. d == 0) (child_started 0 x) ≡ true → is_start 0 x ≡ true
     start_here (Out (Start d i j hop launch)) h = let p = if_some (0 == i) 0 d h in equal_swap d 0 p.1
     start_here _ h = absurd (cc)
@@ -362,18 +343,14 @@ module _ (site : Site) (mid : Core) (T : List Item) (ev : Event) (found begun : 
       more : (a l l' t d : Bool) → (l ≡ true → l' ≡ true) → (not a || (l || t || d)) ≡ true → (not a || (l' || t || d)) ≡ true
       more false l l' t d f h = refl
       more true true l' t d f h = rw (f refl) refl
-      more true false l' t d f h = last_true l' t d h
+      more true false l' t d f h = more_lost l' t d h
         where
-          last_true : (l t d : Bool) → (t || d) ≡ true → (l || t || d) ≡ true
-          last_true true t d h = refl
-          last_true false t d h = h
-
-      lost_if : (w : Bool) (core : Core) → (if w then record core { answered = is_some_text (due_answer core) || core.answered } else core).lost ≡ core.lost
-      lost_if true core = refl
-      lost_if false core = refl
+          more_lost : (l t d : Bool) → (t || d) ≡ true → (l || t || d) ≡ true
+          more_lost true t d h = refl
+          more_lost false t d h = h
 
       lost_more : (core : Core) (found : Bool) → core.lost ≡ true → (answered core found).lost ≡ true
-      lost_more core true e = lost_if (is_open core) core ∙ e
+      lost_more core true e = answered-lost core ∙ e
       lost_more core false e = refl
 
   release_equal : (must_release site (after_step T ev (acts_of mid found begun)) 0 0 && not (output_ended (T ++ In ev ∷ []) 0)) ≡ is_release_due (answered mid found)
@@ -469,10 +446,6 @@ module _ (site : Site) (mid : Core) (T : List Item) (ev : Event) (found begun : 
       (over_decided mid.stopped (answered mid found).lost mid.shut mid.answered mid.unbuilt mid.child.outcome (acted mid found begun).child.outcome
       (is_waited_out site.limits 0 (since (is_child_eof 0) (after_step T ev (acts_of mid found begun)))) sp (calm_mid st) (outcome_end st) (waited_end st))
     where
-      if_same : (b : Bool) (o : Outcome) → (if b then o else o) ≡ o
-      if_same true o = refl
-      if_same false o = refl
-
       over_decided : (stp l s r u : Bool) (o o' : Outcome) (w : Bool) → stp ≡ true → calm_by (s || r || (stp || u)) true (is_undecided o) ≡ true →
           o' ≡ (if l && not s then decided true o Dropped else o) → (is_output o' ≡ true → w ≡ (stp || l)) → (is_dropped o' || is_output o' && w) ≡ true
       over_decided stp l s r u Undecided o' w t c e f =
@@ -498,13 +471,9 @@ module _ (site : Site) (mid : Core) (T : List Item) (ev : Event) (found begun : 
       output = λ e d. release_stands (rw (e, d) refl);
     };
     lingers = record {
-      waited_out = λ s d e w. kill_stands (rw (s, e, d, w, or_true (is_by_other (run site (after_step T ev (acts_of mid found begun)) 0 0))) refl);
-      output = λ d e. release_stands (rw (e, d, or_true (is_by_other (run site (after_step T ev (acts_of mid found begun)) 0 0))) refl);
+      waited_out = λ s d e w. kill_stands (rw (s, e, d, w, or-true (is_by_other (run site (after_step T ev (acts_of mid found begun)) 0 0))) refl);
+      output = λ d e. release_stands (rw (e, d, or-true (is_by_other (run site (after_step T ev (acts_of mid found begun)) 0 0))) refl);
       asked = ask_stands;
     };
     stops = record { killed_or_gone = λ t s. killed_or_exited s (stopped_decided t s) };
   }
-    where
-      or_true : (a : Bool) → (a || true) ≡ true
-      or_true true = refl
-      or_true false = refl

@@ -2,7 +2,7 @@
 use Rattle.std.proofs.Common.{◌≡◌, ℕ, List, [], ◌∷◌, ◌++◌, Bool, true, false, ◌||◌, ◌&&◌, refl, sym, ◌∙◌, ap, arith, length, Option, Some, None, inl, inr}
 use Rattle.std.specs.Prelude.{if◌then◌else◌, not, ◌⊎◌, nat_lt, is_some, bytes_eq}
 use Rattle.std.specs.List.{list_any}
-use Rattle.std.proofs.lemmas.Bool.{and_parts, le-leb}
+use Rattle.std.proofs.lemmas.Bool.{and_parts, le-leb, not-true}
 use Rattle.std.proofs.lemmas.Grind.{common_steps}
 use Rattle.std.proofs.lemmas.Slice.Eq.{bytes_eq-Decides}
 use Rattle.host_base.specs.declared.launch.Launch.{Launch}
@@ -48,10 +48,12 @@ use Rattle.host_core.proofs.ActsLaws.{waiting_open}
 use Rattle.host_core.proofs.CalmLaws.{gone-same, closed-closed, unanswered_yet}
 use Rattle.host_core.proofs.ChildLaws.{none_built, not_high}
 use Rattle.host_core.proofs.FitLaws.{wanted}
+use Rattle.host_core.proofs.OnlyLaws.{no_upgrade}
 use Rattle.host_core.proofs.HeardLaws.{Quiet, closed_lost, idle_parts}
 use Rattle.host_core.proofs.IdleLaws.{open_end}
 use Rattle.host_core.proofs.PickLaws.{picked_client, picked_shut}
-use Rattle.host_core.proofs.SoundLaws.{keeps-acted, closed-shut, nothing_due, lost_closed}
+use Rattle.host_core.proofs.SoundLaws.{answered-lost, keeps-acted, closed-shut, nothing_due, lost_closed}
+use Rattle.std.proofs.Math.Bool.{and-true, or-false, and-false}
 
 -- ---- a text has a byte at least
 
@@ -80,11 +82,7 @@ whole_is : (site : Site) (U : List Item) → client_out U 0 ≡ spelling (answer
 whole_is site U e =
     ap (λ l. is_final (answer site U 0) && bytes_eq (client_out U 0) l) (sym e)
     ∙ (ap (λ v. is_final (answer site U 0) && v) ((bytes_eq-Decides (client_out U 0) (client_out U 0)).1 refl)
-    ∙ (and_true (is_final (answer site U 0)) ∙ (final_is (answer site U 0) ∙ ap (λ l. nat_lt 0 (length l)) (sym e))))
-  where
-    and_true : (a : Bool) → (a && true) ≡ a
-    and_true true = refl
-    and_true false = refl
+    ∙ (and-true (is_final (answer site U 0)) ∙ (final_is (answer site U 0) ∙ ap (λ l. nat_lt 0 (length l)) (sym e))))
 
 -- ---- the client that is there
 
@@ -246,22 +244,14 @@ gone_lost true core = going_lost core (asks core)
     going_lost core (Refused cause bare) = refl
 gone_lost false core = refl
 
-answered_lost : (core : Core) → (handled (answered core true)).lost ≡ core.lost
+handled_lost : (core : Core) → (handled (answered core true)).lost ≡ core.lost
 unfolding handled
-answered_lost core = lost_if (is_open core) core
-  where
-    lost_if : (w : Bool) (core : Core) → (if w then record core { answered = is_some_text (due_answer core) || core.answered } else core).lost ≡ core.lost
-    lost_if true core = refl
-    lost_if false core = refl
+handled_lost core = answered-lost core
 
 finished_script : (request : Asked) → is_script request ≡ true → is_unfinished request ≡ false
 finished_script More e = absurd (cc)
 finished_script (Script index host) e = refl
 finished_script (Refused cause bare) e = refl
-
-not_unfinished : (b : Bool) → not b ≡ true → b ≡ false
-not_unfinished true e = absurd (cc)
-not_unfinished false e = refl
 
 not_eof : (x : Item) → is_built_item x ≡ true → is_client_eof 0 x ≡ false
 not_eof (In (ClientEof c)) e = absurd (cc)
@@ -419,12 +409,8 @@ module _ (site : Site) (mid : Core) (T : List Item) (ev : Event) (found begun : 
 
       answered_h : (handled (answered mid found)).lost ≡ false → (handled (answered mid found)).answered ≡ is_some_text (due_answer mid)
       answered_h l =
-          (handled_answered mid found).answered s (lost_h l) ∙ (ap (λ v. is_some_text (due_answer mid) || v) (un s) ∙ or_none (is_some_text (due_answer mid)))
+          (handled_answered mid found).answered s (lost_h l) ∙ (ap (λ v. is_some_text (due_answer mid) || v) (un s) ∙ or-false (is_some_text (due_answer mid)))
         where
-          or_none : (a : Bool) → (a || false) ≡ a
-          or_none true = refl
-          or_none false = refl
-
           lost_h : (handled (answered mid found)).lost ≡ false → (handled (answered mid found)).lost ≡ false
           lost_h l = l
 
@@ -494,7 +480,7 @@ module _ (site : Site) (mid : Core) (T : List Item) (ev : Event) (found begun : 
           let h = handled (answered mid found) in
           let q = quiet t e in
           let no_found : (found ≡ false → ⊥) = λ z. let d = (and_parts (is_open mid) (is_some_text (due_answer mid)) (f z)).1 in let d' = q.none_due in absurd (cc) in
-          let l : h.lost ≡ false = found_true found no_found ∙ (answered_lost mid ∙ q.lost) in
+          let l : h.lost ≡ false = found_true found no_found ∙ (handled_lost mid ∙ q.lost) in
           let ld : (closed h).lost ≡ false = (lost_closed h (due_why h)).0 ∙ l in
           let no_begun : (begun ≡ false → ⊥) = λ z. no_script (closed h) (f' z) (ap (λ r. is_unfinished (asked r.site r.bytes)) (request_d)) (begun_d) q.waits in
           or_nones (is_memory (due_why h)) (is_memory (due_why (gone_on (closed h) begun))) (no_memory_why h l)
@@ -525,7 +511,7 @@ module _ (site : Site) (mid : Core) (T : List Item) (ev : Event) (found begun : 
 
   open_shut : is_open_at (after_step T ev (acts_of mid found begun)) 0 ≡ true → (acted mid found begun).shut ≡ false
   open_shut e =
-      n.shut ∙ not_unfinished (shut (after_step T ev (acts_of mid found begun)) 0)
+      n.shut ∙ not-true (shut (after_step T ev (acts_of mid found begun)) 0)
       (and_parts (is_known (after_step T ev (acts_of mid found begun)) 0) (not (shut (after_step T ev (acts_of mid found begun)) 0)) e).1
 
   unlost_end : (acted mid found begun).shut ≡ false → (acted mid found begun).lost ≡ false
@@ -546,7 +532,7 @@ module _ (site : Site) (mid : Core) (T : List Item) (ev : Event) (found begun : 
       let p = and_parts (is_open_at U 0 && not (is_pending_high U 0)) (not (is_unfinished (asked site (client_in U 0)))) m in
       let e = open_shut (and_parts (is_open_at U 0) (not (is_pending_high U 0)) p.0).0 in
       let q = idle_parts last.shut (is_some_text (due_answer last)) (is_unfinished (asks last)) last.child.begun id e in
-      let r : is_unfinished (asks last) ≡ false = ap is_unfinished (sym (asks_end e)) ∙ not_unfinished (is_unfinished (asked site (client_in U 0))) p.1 in
+      let r : is_unfinished (asks last) ≡ false = ap is_unfinished (sym (asks_end e)) ∙ not-true (is_unfinished (asked site (client_in U 0))) p.1 in
       has_child (second (is_unfinished (asks last)) last.child.begun q.1 r)
     where
       second : (a b : Bool) → (a || b) ≡ true → a ≡ false → b ≡ true
@@ -599,12 +585,8 @@ module _ (site : Site) (mid : Core) (T : List Item) (ev : Event) (found begun : 
   hear_shut : (acted mid found begun).shut ≡ true → must_hear site (after_step T ev (acts_of mid found begun)) 0 ≡ false
   hear_shut e =
       let U = after_step T ev (acts_of mid found begun) in
-      let o : is_open_at U 0 ≡ false = rw (← n.shut, e) (and_false (is_known U 0)) in
+      let o : is_open_at U 0 ≡ false = rw (← n.shut, e) (and-false (is_known U 0)) in
       ap (λ v. v && not (is_pending_high U 0) && not (has_begun U 0) && is_unfinished (asked site (client_in U 0)) && not (list_any (is_client_eof 0) U)) o
-    where
-      and_false : (a : Bool) → (a && false) ≡ false
-      and_false true = refl
-      and_false false = refl
 
   shut_waits : (acted mid found begun).shut ≡ true →
       (is_waiting (closed (handled (answered mid found))) && (is_unfinished (asks (closed (handled (answered mid found)))) && not (closed (handled (answered mid found))).asked)) ≡ false
@@ -679,6 +661,7 @@ module _ (site : Site) (mid : Core) (T : List Item) (ev : Event) (found begun : 
   pub connection_good : ConnectionGood site (step_of T ev (acts_of mid found begun)) 0
   connection_good = record {
     replies = rep;
+    talks = record { never = no_upgrade (after_step T ev (acts_of mid found begun)) 0 n.first };
     shuts = record { once = once_shut; first = first_shut };
     wants = record { ask = picked_client mid found begun ∙ ap (λ v. when v (WantClient 0)) (sym want_equal) };
     begins = record { begun = begins };

@@ -18,6 +18,7 @@ use Rattle.host_core.specs.Built.{IsBuilt, is_built_item}
 use Rattle.host_core.specs.declared.child.Outcome.{Outcome}
 use Rattle.host_core.specs.declared.child.Outcome.TheVariants.{Undecided, Output, Dropped}
 use Rattle.host_core.specs.Knows.{decides, outcome_by, outcome_of}
+use Rattle.std.proofs.Math.Bool.{or-false}
 
 -- ---- a test that looks at what stands before, and one that doesn't
 
@@ -41,13 +42,9 @@ last_of_first by test before (x ∷ items) agrees =
 
 -- ---- what decides in a trace that is built
 
-or_false : (a : Bool) → (a || false) ≡ a
-or_false true = refl
-or_false false = refl
-
 same_test : (limits : Limits) (front : List Item) (x : Item) → is_built_item x ≡ true → passes_output limits 0 front x ≡ false →
     decides_by limits Cgi 0 0 front x ≡ decides x
-same_test limits front (Out act) b p = or_false _ ∙ or_false _
+same_test limits front (Out act) b p = or-false _ ∙ or-false _
 same_test limits front (In (Accepted peer)) b p = refl
 same_test limits front (In (ClientBytes c bytes)) b p = refl
 same_test limits front (In (Started k)) b p = refl
@@ -114,7 +111,7 @@ first-passes test (y ∷ items) x e = found test y x (first test items) (test y)
 
 said_of : (x : Item) → decides x ≡ true → Some (outcome_by_item Cgi 0 x) ≡ outcome_said (outcome_by (Some x))
 said_of (Out act) d = refl
-said_of (In (ChildEof k)) d = let e : (0 == k) ≡ true = sym (or_false (0 == k)) ∙ (sym (or_false ((0 == k) || false)) ∙ d) in rw e refl
+said_of (In (ChildEof k)) d = let e : (0 == k) ≡ true = sym (or-false (0 == k)) ∙ (sym (or-false ((0 == k) || false)) ∙ d) in rw e refl
 said_of (In Stop) d = refl
 said_of _ d = absurd (cc)
 

@@ -33,6 +33,7 @@ use Rattle.host_core.proofs.FormLaws.{going_none}
 use Rattle.host_core.proofs.IdleLaws.{no_reason, no_why_parts}
 use Rattle.host_core.proofs.HeardLaws.{notes_shut, notes_lost, asked_parts, client_asked, idle_parts}
 use Rattle.host_core.proofs.SoundLaws.{keeps-answered, keeps-acted, given-acted, child-answered}
+use Rattle.std.proofs.Math.Bool.{and-false, or-true}
 
 -- ---- nothing is due any more
 
@@ -113,11 +114,7 @@ over_due core mid T limit ev s fit n u = by_open mid.shut mid.lost refl refl
         let cs : core.shut ≡ false = sym (notes_shut core mid ev n) ∙ e in
         let v : (is_unbuilt core (In ev) || core.unbuilt) ≡ true = ap (λ (c : Core). c.unbuilt) (sym same) ∙ u in
         let d : is_some_text (due_answer mid) ≡ false = ap (λ c. is_some_text (due_answer c)) same ∙ over_noted core T limit ev s fit cs v in
-        rw d (and_false (is_open mid))
-      where
-        and_false : (a : Bool) → (a && false) ≡ false
-        and_false true = refl
-        and_false false = refl
+        rw d (and-false (is_open mid))
 
 -- ---- the acts
 
@@ -226,13 +223,9 @@ over_handled : (mid : Core) (found : Bool) → mid.unbuilt ≡ true → (is_over
 over_handled mid found u =
     let a = keeps-answered mid found in
     let h = handled_answered mid found in (
-      ap (λ v. (answered mid found).stopped || v) (a.unbuilt ∙ u) ∙ last_true (answered mid found).stopped,
-      ap (λ v. (handled (answered mid found)).stopped || v) (h.unbuilt ∙ u) ∙ last_true (handled (answered mid found)).stopped,
+      ap (λ v. (answered mid found).stopped || v) (a.unbuilt ∙ u) ∙ or-true (answered mid found).stopped,
+      ap (λ v. (handled (answered mid found)).stopped || v) (h.unbuilt ∙ u) ∙ or-true (handled (answered mid found)).stopped,
     )
-  where
-    last_true : (a : Bool) → (a || true) ≡ true
-    last_true true = refl
-    last_true false = refl
 
 ending-acts : (mid : Core) (found begun : Bool) → is_answer_due mid ≡ false → alone (handled (answered mid found)) ≡ true → mid.unbuilt ≡ true → list_all is_ending (acts_of mid found begun) ≡ true
 unfolding acts_of

@@ -71,10 +71,6 @@ asked_same : (core : Core) (T : List Item) (c : ℕ) → Knows core T → is_ask
 asked_same core T zero k = rw (← k.shut, no_upgrade T 0 k.first, wanted core T k) (true_and (not core.shut) core.asked)
 asked_same core T (suc c) k = no_asked core T c k ∙ sym (off_both c (not core.shut) core.asked)
 
-and_true : (a : Bool) → (a && true) ≡ a
-and_true true = refl
-and_true false = refl
-
 open_same : (core : Core) (T : List Item) (c : ℕ) → Knows core T → IsShort T → is_open T c ≡ is_client_open core c
 open_same core T zero k short = rw (← k.shut, k.accepted (few_accepted T short)) refl
 open_same core T (suc c) k short =

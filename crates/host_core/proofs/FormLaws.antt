@@ -3,8 +3,7 @@ use Rattle.std.proofs.Common.{◌≡◌, ℕ, suc, lit≤, ◌≤◌, List, [], 
 use Rattle.std.specs.Prelude.{if◌then◌else◌, not, nat_lt, nat_le, is_some}
 use Rattle.std.specs.List.{slice_get, list_all}
 use Rattle.std.proofs.lemmas.List.Folds.{list_all-append}
-use Rattle.std.proofs.lemmas.List.{map-append}
-use Rattle.std.proofs.lemmas.Bool.{or_parts, and_parts, le-leb, leb-true}
+use Rattle.std.proofs.lemmas.Bool.{or_parts, and_parts, le-leb, leb-true, not-true}
 use Rattle.std.proofs.lemmas.Grind.{common_steps}
 use Rattle.host_base.specs.declared.launch.Launch.{Launch}
 use Rattle.host_base.specs.declared.launch.Peer.{Peer}
@@ -25,7 +24,7 @@ use Rattle.host_core.specs.Knows.{Knows}
 use Rattle.host_core.specs.Stands.{alone, is_closed}
 use Rattle.host_core.specs.Due.{asks, is_over, is_open, is_answer_due, is_input_due, is_kill_due, is_release_due, is_ask_due, input_given, kill_given, release_given, handled, handling, due_why, why_of, closed, shuts, answered, answering, due_answer, is_some_text, text_by, writes, gone_on, gone_on_by, begun_by, going_on, going_by, launch_by, starts, is_waiting, acts_of}
 use Rattle.host_core.proofs.KnowsLaws.{peer_count}
-use Rattle.host_core.proofs.ActsLaws.{Knows-answered, Knows-handled, Knows-closed, Knows-gone_on, Knows-end_input, Knows-kill, Knows-release, waiting_open}
+use Rattle.host_core.proofs.ActsLaws.{append_map, Knows-answered, Knows-handled, Knows-closed, Knows-gone_on, Knows-end_input, Knows-kill, Knows-release, waiting_open}
 use Rattle.host_core.proofs.CalmLaws.{closed-closed}
 use Rattle.host_core.proofs.ConnectionLaws.{due_some, second_none, none_why}
 use Rattle.host_core.proofs.IdleLaws.{no_reason}
@@ -65,18 +64,10 @@ come-answering core V true k a = by_open (is_open core) refl
   where
     by_open : (b : Bool) → is_open core ≡ b → AllActs Comes V (if b then writes (due_answer core) else [])
     by_open true o =
-        come-write core V (due_answer core) k (or_parts core.shut core.lost (not_true (core.shut || core.lost) o)).0 (due_peer core a)
+        come-write core V (due_answer core) k (or_parts core.shut core.lost (not-true (core.shut || core.lost) o)).0 (due_peer core a)
         (due_some core.child.begun core.child.outcome (asks core) core.child.output)
-      where
-        not_true : (b : Bool) → not b ≡ true → b ≡ false
-        not_true true e = absurd (cc)
-        not_true false e = refl
     by_open false o = tt
 come-answering core V false k a = tt
-
-not_true : (b : Bool) → not b ≡ true → b ≡ false
-not_true true e = absurd (cc)
-not_true false e = refl
 
 come-input : (core : Core) (V : List Item) → Knows core V → is_input_due core ≡ true → may_come V (EndInput 0) ≡ true
 come-input core V k d = rw (← k.child.started, ← k.child.input_ended) d
@@ -103,9 +94,6 @@ come-ask : (core : Core) (V : List Item) → Knows core V → is_ask_due core �
 come-ask core V k d =
     rw (← k.child.started, ← k.child.output_ended, wanted_child core V k)
     (ask_parts core.child.started core.child.output_ended core.child.killed core.lost (is_over core) _ core.child.asked d)
-
-append_map : (V : List Item) (a b : List Act) → (V ++ map Out a) ++ map Out b ≡ V ++ map Out (a ++ b)
-append_map V a b = simp (map-append, append_assoc)
 
 come-handling : (a : Core) (V : List Item) → Knows a V → AllActs Comes V (handling a)
 unfolding handling

@@ -2,7 +2,7 @@
 use Rattle.std.proofs.Common.{◌≡◌, ℕ, suc, zero, nat_le, ◌+◌, List, [], ◌∷◌, ◌++◌, Bool, true, false, ◌||◌, ◌&&◌, refl, sym, ◌∙◌, ap, subst, arith, Option, Some, None, inl, inr, length}
 use Rattle.std.specs.Prelude.{if◌then◌else◌, not, is_some, count_by, ◌==◌, nat_lt}
 use Rattle.std.proofs.Math.Bool.{or-true}
-use Rattle.std.proofs.lemmas.Bool.{or_parts, and_parts, ltb-true, leb-true, lt-leb}
+use Rattle.std.proofs.lemmas.Bool.{or_parts, and_parts, ltb-true, leb-true, lt-leb, not-true}
 use Rattle.std.proofs.lemmas.Grind.{common_steps}
 use Rattle.host_trace.specs.declared.items.Event.{Event}
 use Rattle.host_trace.specs.declared.items.Event.TheVariants.{ClientBytes, ClientEof, Wrote, Started, StartFailed, StartFull, ChildBytes, ChildEof, ChildBroken, Took, InputGone, Exited, WsText, WsBinary, WsClosed, WsBad}
@@ -62,14 +62,10 @@ child_asked core T c k w e =
     let l : child_wanted T 0 ≡ true = subst (λ d. child_wanted T d ≡ true) (sym (is_zero c e)) w in
     asked_from core.child.asked (count_by (is_want_child 0) T) (count_by (is_child_answer 0) T) k.child.asked l
 
-not_false : (b : Bool) → not b ≡ true → b ≡ false
-not_false true e = absurd (cc)
-not_false false e = refl
-
 pub asked_parts : (T : List Item) (c : ℕ) → is_asked T c ≡ true → (shut T c ≡ false) × (client_wanted T c ≡ true)
 asked_parts T c e =
     let p = and_parts (not (shut T c) && not (upgraded T c)) (client_wanted T c) e in
-    (not_false (shut T c) (and_parts (not (shut T c)) (not (upgraded T c)) p.0).0, p.1)
+    (not-true (shut T c) (and_parts (not (shut T c)) (not (upgraded T c)) p.0).0, p.1)
 
 upgraded_parts : (T : List Item) (c : ℕ) → is_asked_upgraded T c ≡ true → client_wanted T c ≡ true
 upgraded_parts T c e = (and_parts (not (shut T c) && upgraded T c) (client_wanted T c) e).1
@@ -77,7 +73,7 @@ upgraded_parts T c e = (and_parts (not (shut T c) && upgraded T c) (client_wante
 pub output_parts : (T : List Item) (k : ℕ) → is_output_asked T k ≡ true → (output_ended T k ≡ false) × (child_wanted T k ≡ true)
 output_parts T k e =
     let p = and_parts (started T k && not (output_ended T k)) (child_wanted T k) e in
-    (not_false (output_ended T k) (and_parts (started T k) (not (output_ended T k)) p.0).1, p.1)
+    (not-true (output_ended T k) (and_parts (started T k) (not (output_ended T k)) p.0).1, p.1)
 
 pub admits : (core : Core) (T : List Item) (limit : ℕ) (ev : Event) → Knows core T → fits limit T ev ≡ true → Admits core (In ev)
 admits core T limit (ClientBytes c bytes) k fit =
@@ -198,7 +194,7 @@ open_parts : (T : List Item) (k : ℕ) → (0 == k) ≡ true → is_start_open T
 open_parts T k z e =
     let f : is_start_open T 0 ≡ true = subst (λ d. is_start_open T d ≡ true) (sym (is_zero k z)) e in
     let p = and_parts (start_stands T 0) (not (start_answered T 0)) f in
-    (p.0, not_false (start_answered T 0) p.1)
+    (p.0, not-true (start_answered T 0) p.1)
 
 start_once : (core : Core) (T : List Item) (k : ℕ) → Knows core T → (0 == k) ≡ true → is_start_open T k ≡ true →
     (core.child.begun ≡ true) × ((core.child.started || core.child.refused) ≡ false)
@@ -216,7 +212,7 @@ once_exits : (core : Core) (T : List Item) (limit : ℕ) (ev : Event) → Knows 
 once_exits core T limit (Exited k) n fit e =
     let f : (started T 0 && not (exited T 0)) ≡ true = subst (λ d. (started T d && not (exited T d)) ≡ true) (sym (is_zero k e)) fit in
     let p = and_parts (started T 0) (not (exited T 0)) f in
-    (n.child.started ∙ p.0, n.child.exited ∙ not_false (exited T 0) p.1)
+    (n.child.started ∙ p.0, n.child.exited ∙ not-true (exited T 0) p.1)
 once_exits core T limit _ n fit e = absurd (cc)
 
 once_eof : (core : Core) (T : List Item) (limit : ℕ) (ev : Event) → Knows core T → fits limit T ev ≡ true → is_child_eof 0 (In ev) ≡ true → core.child.output_ended ≡ false
@@ -472,14 +468,10 @@ alone_parts : (p k b l r s m : Bool) → alone_by p (k || b || l || r || s) m �
 alone_parts true k b l r s m h e = absurd (cc)
 alone_parts false k b l r s m h e = and_parts (not (k || b || l || r || s)) m h
 
-last_true : (p : Bool) → (p || true) ≡ true
-last_true true = refl
-last_true false = refl
-
 alone_new : (core : Core) (ev : Event) → is_kept (In ev) ≡ false → core.asked ≡ false → core.child.begun ≡ false → core.lost ≡ false → core.answered ≡ false → core.shut ≡ false →
     is_unfinished (asks core) ≡ true → alone (noted core (In ev)) ≡ true
 alone_new core ev kept a b l r s m =
-    rw (unkept_bytes ev kept, a, still_unasked (is_client_answer 0 (In ev)), b, l, r, s, m) (last_true (is_some (with_peer (peer_of_item (In ev)) core.peer)))
+    rw (unkept_bytes ev kept, a, still_unasked (is_client_answer 0 (In ev)), b, l, r, s, m) (or-true (is_some (with_peer (peer_of_item (In ev)) core.peer)))
 
 alone_there : (core : Core) → is_some core.peer ≡ true → alone core ≡ true
 alone_there core e = rw e refl

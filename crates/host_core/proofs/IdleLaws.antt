@@ -18,7 +18,8 @@ use Rattle.host_core.specs.Answer.{is_unfinished, launch_for}
 use Rattle.host_core.specs.Stands.{fresh, alone, alone_by, idle}
 use Rattle.host_core.specs.Due.{asks, is_undecided, is_over, handled, closed, closed_by, due_why, why_of, gone_on, gone_on_by, is_waiting, answered, answer_by, due_answer, acted, is_open, is_answer_due, is_some_text, launch_by, begun_by}
 use Rattle.host_core.proofs.ActsLaws.{waiting_open}
-use Rattle.host_core.proofs.SoundLaws.{keeps-before, alone-before, fresh-before, some_of_waiting}
+use Rattle.host_core.proofs.SoundLaws.{answered-shut, answered-lost, keeps-before, alone-before, fresh-before, some_of_waiting}
+use Rattle.std.proofs.Math.Bool.{or-true}
 
 -- ---- a script that is asked for has a launch
 
@@ -100,24 +101,12 @@ unanswered_if : (w : Bool) (core : Core) → (if w then record core { answered =
 unanswered_if true core e t = or_parts (is_some_text (due_answer core)) core.answered e
 unanswered_if false core e t = absurd (cc)
 
-lost_if : (w : Bool) (core : Core) → (if w then record core { answered = is_some_text (due_answer core) || core.answered } else core).lost ≡ core.lost
-lost_if true core = refl
-lost_if false core = refl
-
-shut_if : (w : Bool) (core : Core) → (if w then record core { answered = is_some_text (due_answer core) || core.answered } else core).shut ≡ core.shut
-shut_if true core = refl
-shut_if false core = refl
-
-answered-shut : (core : Core) (found : Bool) → (answered core found).shut ≡ core.shut
-answered-shut core true = shut_if (is_open core) core
-answered-shut core false = refl
-
 handled-fields : (core : Core) → ((handled core).shut ≡ core.shut) × ((handled core).lost ≡ core.lost) × ((handled core).answered ≡ core.answered)
 unfolding handled
 handled-fields core = (refl, refl, refl)
 
 found_memory : (core : Core) (found : Bool) → (answered core found).lost ≡ false → (found ≡ true) × (core.lost ≡ false)
-found_memory core true e = (refl, sym (lost_if (is_open core) core) ∙ e)
+found_memory core true e = (refl, sym (answered-lost core) ∙ e)
 found_memory core false e = absurd (cc)
 
 none-due : (core : Core) (found : Bool) → (answered core found).answered ≡ false → found ≡ true → core.shut ≡ false → core.lost ≡ false →
@@ -174,11 +163,7 @@ due_handled mid o = due_if (is_open mid) mid
 idle_waiting : (d : Core) (request : Asked) (found : Bool) → asks d ≡ request → is_some_text (due_answer d) ≡ false → d.child.begun ≡ false → is_undecided d.child.outcome ≡ true →
     is_some d.peer ≡ true → d.request.site ≡ d.site.now → (gone_on_by d request found).lost ≡ false → idle (gone_on_by d request found) ≡ true
 idle_waiting d More found r n b u p s l =
-    let m : is_unfinished (asks d) ≡ true = ap is_unfinished r in rw (n, m) (or_true d.shut)
-  where
-    or_true : (a : Bool) → (a || true) ≡ true
-    or_true true = refl
-    or_true false = refl
+    let m : is_unfinished (asks d) ≡ true = ap is_unfinished r in rw (n, m) (or-true d.shut)
 idle_waiting d (Refused cause bare) found r n b u p s l =
     absurd (let e : due_answer d ≡ answer_by false d.child.outcome (Refused cause bare) d.child.output = ap (λ v. answer_by v d.child.outcome (asks d) d.child.output) b ∙ ap (λ q. answer_by false d.child.outcome q d.child.output) r in
     let f : is_some_text (due_answer d) ≡ true = ap is_some_text e in cc)
@@ -187,22 +172,14 @@ idle_waiting d (Script index host) true r n b u p s l =
     idle_begun d (launch_by d index host)
     (some_launch d.site.now d.peer d.request.bytes index host p (ap (λ x. asked x d.request.bytes) (sym s) ∙ r)) u
   where
-    or_true : (a : Bool) → (a || true) ≡ true
-    or_true true = refl
-    or_true false = refl
-
     none_yet : (o : Outcome) (request : Asked) (output : List ℕ) → is_undecided o ≡ true → is_some_text (answer_by true o request output) ≡ false
     none_yet Undecided request output e = refl
     none_yet Output request output e = absurd (cc)
     none_yet Dropped request output e = absurd (cc)
 
-    last_or : (a : Bool) → (a || true) ≡ true
-    last_or true = refl
-    last_or false = refl
-
     idle_begun : (d : Core) (launch : Option Launch) → is_some launch ≡ true → is_undecided d.child.outcome ≡ true → idle (begun_by d launch) ≡ true
     idle_begun d None e u = absurd (cc)
-    idle_begun d (Some launch) e u = rw (none_yet d.child.outcome (asks d) d.child.output u, last_or (is_unfinished (asks d))) (or_true d.shut)
+    idle_begun d (Some launch) e u = rw (none_yet d.child.outcome (asks d) d.child.output u, or-true (is_unfinished (asks d))) (or-true d.shut)
 
 not_waiting : (s p b : Bool) → not (s || not p || b) ≡ false → s ≡ false → (p ≡ false) ⊎ (b ≡ true)
 not_waiting true p b e f = absurd (cc)
@@ -228,13 +205,9 @@ idle_if true d found w s n al f own l =
     fresh_undecided false u e f = e
 idle_if false d found w s n al f own l =
     elim (not_waiting d.shut (is_some d.peer) d.child.begun w s) as (λ _. idle d ≡ true) [
-      | inl p ↦ let m = unfinished_alone d al p in rw (n, m) (or_true d.shut)
-      | inr b ↦ rw (n, b, or_true (is_unfinished (asks d))) (or_true d.shut)
+      | inl p ↦ let m = unfinished_alone d al p in rw (n, m) (or-true d.shut)
+      | inr b ↦ rw (n, b, or-true (is_unfinished (asks d))) (or-true d.shut)
     ]
-  where
-    or_true : (a : Bool) → (a || true) ≡ true
-    or_true true = refl
-    or_true false = refl
 
 idle_open : (mid : Core) (found begun : Bool) → (found ≡ false → is_answer_due mid ≡ true) → alone mid ≡ true → fresh mid ≡ true → mid.request.site ≡ mid.site.now →
     (acted mid found begun).shut ≡ false → idle (acted mid found begun) ≡ true

@@ -4,8 +4,8 @@ use Rattle.std.specs.Prelude.{if◌then◌else◌, count_by, ◌==◌, ◌⊎◌
 use Rattle.std.specs.List.{flat_map, fold, list_any, list_all, slice_get}
 use Rattle.std.proofs.lemmas.List.Folds.{list_all-append}
 use Rattle.std.proofs.lemmas.List.Concat.{flat_map-cons}
-use Rattle.std.proofs.lemmas.Bool.{or_parts, and_parts, cond-true, le-leb, leb-true}
-use Rattle.std.proofs.Math.Bool.{or-false, or_assoc}
+use Rattle.std.proofs.lemmas.Bool.{or_parts, and_parts, cond-true, le-leb, leb-true, not-false}
+use Rattle.std.proofs.Math.Bool.{or-false, or_assoc, or-true}
 use Rattle.host_base.specs.declared.launch.Peer.{Peer}
 use Rattle.host_base.specs.declared.limits.Limits.{Limits}
 use Rattle.host_trace.specs.declared.items.Event.TheVariants.{Accepted, ChildEof}
@@ -168,10 +168,6 @@ outcome-push false outcome d s V x b o =
 
 -- ---- what is built
 
-not-false : (b : Bool) → not b ≡ false → b ≡ true
-not-false true e = refl
-not-false false e = absurd (cc)
-
 in_room : (limit n old : ℕ) → old + n ≤ limit → nat_le n (limit - old) ≡ true
 in_room limit n old f = let g : n ≤ limit - old = omega arith in le-leb n (limit - old) g
 
@@ -318,15 +314,11 @@ eof_new core V x k e =
       | inr p ↦ inr (eof_item core x p.0 p.3, p.1, p.2)
     ]
 
-or_true : (a : Bool) → (a || true) ≡ true
-or_true true = refl
-or_true false = refl
-
 eof-push : (core : Core) (V : List Item) (x : Item) → Knows core V → (noted core x).child.outcome ≡ Output → list_any (is_child_eof 0) (V ++ x ∷ []) ≡ true
 eof-push core V x k e =
     list_any-push (is_child_eof 0) V x ∙ elim (eof_new core V x k e) as (λ _. (list_any (is_child_eof 0) V || is_child_eof 0 x) ≡ true) [
       | inl o ↦ rw (k.child.eof o) refl
-      | inr p ↦ rw p.0 (or_true (list_any (is_child_eof 0) V))
+      | inr p ↦ rw p.0 (or-true (list_any (is_child_eof 0) V))
     ]
 
 eof_ends : (x : Item) → is_child_eof 0 x ≡ true → is_output_end 0 x ≡ true

@@ -1,7 +1,6 @@
 -- What a step starts is what it is to start.
 use Rattle.std.proofs.Common.{◌≡◌, ℕ, List, [], ◌∷◌, ◌++◌, Bool, true, false, ◌||◌, ◌&&◌, map, refl, sym, ◌∙◌, ap, append_assoc, append-nil, Option, Some, None, length, arith}
 use Rattle.std.specs.Prelude.{if◌then◌else◌, not, is_some}
-use Rattle.std.proofs.lemmas.List.{map-append}
 use Rattle.std.proofs.lemmas.Grind.{common_steps}
 use Rattle.host_base.specs.declared.launch.Launch.{Launch}
 use Rattle.host_base.specs.declared.site.Site.{Site}
@@ -22,7 +21,7 @@ use Rattle.host_core.specs.Launches.{IsRightAct}
 use Rattle.host_core.specs.Knows.{Knows, zero_if}
 use Rattle.host_core.specs.Stands.{is_closed}
 use Rattle.host_core.specs.Due.{asks, is_over, is_input_due, is_kill_due, is_release_due, is_ask_due, input_given, kill_given, release_given, handled, handling, due_why, closed, shuts, answered, answering, is_open, is_answer_due, due_answer, writes, gone_on, going_on, going_by, launch_by, starts, is_waiting, acts_of}
-use Rattle.host_core.proofs.ActsLaws.{Knows-answered, Knows-handled, Knows-closed, waiting_open}
+use Rattle.host_core.proofs.ActsLaws.{append_map, Knows-answered, Knows-handled, Knows-closed, waiting_open}
 use Rattle.host_core.proofs.CalmLaws.{closed-closed}
 
 -- ---- lists of acts
@@ -109,9 +108,6 @@ right-gone site core W true found w c k same own =
     let q = calm_facts core.shut (is_some core.peer) core.lost (is_over core) core.answered p.0 p.1 c in
     right-going site core W (asks core) found refl k same own p.0 q.0 (over_facts core.stopped core.unbuilt q.1) p.2
 right-gone site core W false found w c k same own = tt
-
-append_map : (V : List Item) (a b : List Act) → (V ++ map Out a) ++ map Out b ≡ V ++ map Out (a ++ b)
-append_map V a b = simp (map-append, append_assoc)
 
 -- the state of which the acts that start are given
 pub launches-step : (site : Site) (mid : Core) (V : List Item) (found begun : Bool) → (found ≡ false → is_answer_due mid ≡ true) → Knows mid V →

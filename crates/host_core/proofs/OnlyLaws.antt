@@ -13,6 +13,7 @@ use Rattle.host_trace.specs.Kinds.{is_want_client, is_client_answer, is_shut, is
 use Rattle.host_trace.specs.Projections.{client_wanted, shut, upgraded, start_stands, started, client_out, child_in, children}
 use Rattle.host_core.specs.Demands.{is_child_of}
 use Rattle.host_core.specs.Knows.{is_first}
+use Rattle.host_core.proofs.KnowsLaws.{peel}
 
 -- no item of the first ones is such an item
 none_of : (p : Item → Bool) (T : List Item) → ((x : Item) → is_first x ≡ true → p x ≡ false) → list_all is_first T ≡ true → list_any p T ≡ false
@@ -106,10 +107,6 @@ same_number c d e f = grind (arith, common_steps)
 
 pub if_some : (b : Bool) (k d : ℕ) → list_any (λ d. d == k) (if b then d ∷ [] else []) ≡ true → (b ≡ true) × ((d == k) ≡ true)
 if_some true k d e = (refl, peel (d == k) e)
-  where
-    peel : (a : Bool) → (a || false) ≡ true → a ≡ true
-    peel true e = refl
-    peel false e = absurd (cc)
 if_some false k d e = absurd (cc)
 
 pub equal_swap : (c d : ℕ) → (c == d) ≡ true → (d == c) ≡ true

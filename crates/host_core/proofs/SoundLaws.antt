@@ -435,13 +435,18 @@ pub record Begun (mid : Core) (found begun : Bool) : Type 0 where
 not_waiting_begun : (s p b : Bool) → b ≡ true → not (s || p || b) ≡ false
 not_waiting_begun s p b e = grind (arith, common_steps)
 
-shut_if : (w : Bool) (core : Core) → (if w then record core { answered = is_some_text (due_answer core) || core.answered } else core).shut ≡ core.shut
-shut_if true core = refl
-shut_if false core = refl
+-- what the answer leaves of the connection
+answer_leaves : (w : Bool) (core : Core) → let n = (if w then record core { answered = is_some_text (due_answer core) || core.answered } else core) in
+    (n.shut ≡ core.shut) × (n.lost ≡ core.lost)
+answer_leaves true core = (refl, refl)
+answer_leaves false core = (refl, refl)
 
 pub answered-shut : (core : Core) (found : Bool) → (answered core found).shut ≡ core.shut
-answered-shut core true = shut_if (is_open core) core
+answered-shut core true = (answer_leaves (is_open core) core).0
 answered-shut core false = refl
+
+pub answered-lost : (core : Core) → (answered core true).lost ≡ core.lost
+answered-lost core = (answer_leaves (is_open core) core).1
 
 handled_fields : (core : Core) → ((handled core).shut ≡ core.shut) × ((handled core).lost ≡ core.lost) × ((handled core).child.outcome ≡ core.child.outcome) × ((handled core).child.begun ≡ core.child.begun)
 unfolding handled

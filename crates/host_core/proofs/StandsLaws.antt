@@ -4,7 +4,7 @@ use Rattle.std.specs.Prelude.{if◌then◌else◌, not, ◌==◌, ◌⊎◌}
 use Rattle.std.specs.List.{AllByRecursion, flat_map, fold, list_any, list_all}
 use Rattle.std.proofs.lemmas.List.Concat.{flat_map-append}
 use Rattle.std.proofs.lemmas.List.Folds.{list_all-append}
-use Rattle.std.proofs.lemmas.Bool.{or_parts, and_parts, ltb-true}
+use Rattle.std.proofs.lemmas.Bool.{not-true, or_parts, and_parts, ltb-true}
 use Rattle.std.proofs.lemmas.Grind.{common_steps, fold-append}
 use Rattle.host_base.specs.declared.limits.Limits.{Limits}
 use Rattle.host_base.specs.declared.site.Site.{Site}
@@ -49,7 +49,7 @@ use Rattle.host_core.proofs.ConnectionLaws.{connection_good}
 use Rattle.host_core.proofs.FormLaws.{come-acts, ordered_acts}
 use Rattle.host_core.proofs.EndLaws.{ends, over_due}
 use Rattle.host_core.proofs.HeardLaws.{Sound, quiet-heard, sound-heard, alone-heard, knows-heard, calm-heard, ended-heard, apt-heard, is_zero, asked_parts, output_parts, notes_shut, unlost}
-use Rattle.host_core.proofs.ActsLaws.{not-true, due_open, Knows-acted}
+use Rattle.host_core.proofs.ActsLaws.{due_open, Knows-acted}
 use Rattle.host_core.proofs.CalmLaws.{shut_open, lost_shut, unanswered_yet, answered-lost, calm-acted, ended-acted, closed-acted, apt-acted, acted-shut, handled-same, handled-outcome, went, Went}
 use Rattle.host_core.proofs.AnswerLaws.{model_by, answer-is, text-is, no_text, no_spelling, stable}
 use Rattle.host_core.proofs.ReplyLaws.{client_out-step, given_text, heard-acts}

@@ -11,7 +11,7 @@ use Rattle.host_trace.specs.declared.items.Why.TheVariants.{Done, Stopped, NoMem
 use Rattle.host_trace.specs.declared.items.Item.{Item}
 use Rattle.host_trace.specs.declared.items.Item.TheVariants.{Out}
 use Rattle.host_trace.specs.Kinds.{is_want_client, is_shut, is_shut_for_memory}
-use Rattle.host_trace.specs.Projections.{client_out, client_wanted, shut, stopped}
+use Rattle.host_trace.specs.Projections.{client_out, client_wanted, shut, stopped, upgraded}
 use Rattle.host_trace.specs.Fits.{is_open}
 use Rattle.host_trace.specs.Told.{when}
 use Rattle.host_trace.specs.Trace.{Step, end_of}
@@ -58,6 +58,10 @@ pub record Answers (site : Site) (T : List Item) (c : ℕ) : Type 0 where
 -- the client is asked
 pub record Hears (site : Site) (T : List Item) (c : ℕ) : Type 0 where
   pub asked : must_hear site T c ≡ true → client_wanted T c ≡ true
+
+-- no request of the first path asks for a WebSocket, so it is never upgraded
+pub record Talks (T : List Item) (c : ℕ) : Type 0 where
+  pub never : upgraded T c ≡ false
 
 -- after Stop it is shut
 pub record Stops (T : List Item) (c : ℕ) : Type 0 where

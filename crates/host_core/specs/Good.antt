@@ -7,7 +7,7 @@ use Rattle.host_trace.specs.Projections.{is_known}
 use Rattle.host_trace.specs.Trace.{Step, end_of, AtEachStep}
 use Rattle.host_core.specs.Built.{IsBuilt}
 use Rattle.host_core.specs.Children.{Children, Bodies, Feeds, HandlesDecided, Lingers, StopsChild}
-use Rattle.host_core.specs.Connections.{Wants, Shuts, Begins, Answers, Hears, Stops, TakesNoMemory}
+use Rattle.host_core.specs.Connections.{Talks, Wants, Shuts, Begins, Answers, Hears, Stops, TakesNoMemory}
 use Rattle.host_core.specs.Delivery.{whole}
 use Rattle.host_core.specs.Demands.{is_child_of}
 use Rattle.host_core.specs.Ends.{Ends}
@@ -19,6 +19,7 @@ use Rattle.host_core.specs.Launches.{Launches}
 
 pub record ConnectionGood (site : Site) (s : Step) (c : ℕ) : Type 0 where
   pub replies : Replies whole site (end_of s) c
+  pub talks : Talks (end_of s) c
   pub shuts : Shuts site s c
   pub wants : Wants site s c
   pub begins : Begins site (end_of s) c
