@@ -1,5 +1,5 @@
 -- What the outside of one connection hands up only where it was asked for.
-use Rattle.std.specs.Prelude.{ℕ, ◌≡◌, Bool, true, false, not, ◌&&◌, ◌==◌, Option, Some, None}
+use Rattle.std.specs.Prelude.{ℕ, Bool, true, false, not, ◌&&◌, ◌==◌, Option, Some, None}
 use Rattle.host_trace.specs.declared.items.Event.{Event}
 use Rattle.host_trace.specs.declared.items.Event.TheVariants.{ClientBytes, ClientEof, ClientGone, ChildBytes, ChildEof, Exited, NoRoom, Stop}
 use Rattle.host_trace.specs.declared.items.Act.{Act}
@@ -47,8 +47,3 @@ wants_client _ = false
 abbrev pub shuts : Act → Bool
 shuts (Shut c why) = true
 shuts _ = false
-
--- the client is asked and shut as before
-pub record Keeps {R : Type 0} (old new : Streams R) : Type 0 where
-  pub wanted : new.client_wanted ≡ old.client_wanted
-  pub shut : new.shut ≡ old.shut

@@ -1,7 +1,8 @@
 // A real child.
-ghost use Rattle.std.specs.Prelude.{◌≡◌, ◌<◌, ◌∷◌, [], true, false, IfOk, IfSome, IsSome, IsNone, OnOk, length};
+ghost use Rattle.std.specs.Prelude.{◌≡◌, ◌<◌, ◌∷◌, [], true, false, is_some, IfOk, IfSome, IsNone, OnOk, length};
 ghost use Rattle.cgihost.specs.Pieces.{is_within};
-ghost use Rattle.cgihost.specs.ChildEvents.{is_own};
+ghost use Rattle.cgihost.specs.ChildEvents.{said_of, can_read, Said, IsReaped, IsEnded, HasRead, output_ended};
+ghost use Rattle.cgihost.specs.ChildActs.{Does, Fed, IsKilled, IsFresh, input_ended};
 ghost use Rattle.cgihost.specs.Commands.{AddsWords, SetsPairs, Runs};
 
 use super::piece::{Piece, read_piece};
@@ -10,13 +11,16 @@ use host_trace::{Act, Event};
 use std::alloc::{AllocError, Global};
 use std::io;
 use std::io::{ErrorKind, Write};
-use std::process::{Child, Command, Processes, Stdio, SystemProcess};
+use std::process::{Child, ChildStdin, ChildStdout, Command, Processes, Stdio, SystemProcess};
 
 /// A program that runs or has exited, and our ends of its pipes.
 #[derive(Drop)]
 pub struct RealChild {
     k: u64,
+    /// Our ends of its pipes are not in here, so that it is known what a wait or a kill leaves of them.
     process: Child<SystemProcess>,
+    input: Option<ChildStdin>,
+    output: Option<ChildStdout>,
     /// One event of its output is asked for.
     wanted: bool,
     /// Bytes that its input took and that were not handed up as such.
@@ -97,11 +101,13 @@ impl RealChild {
         k: u64,
         launch: &Launch,
     ) -> Result<Self, StartFault>
-        ensures { IfOk result (λ child. (child.k ≡ k) × (child.exited ≡ false)) }
+        ensures { IfOk result (λ child. IsFresh k child) }
     {
         match spawn(rt, alloc, launch) {
-            Ok(process) => Ok(RealChild {
+            Ok(mut process) => Ok(RealChild {
                 k,
+                input: process.stdin.take(),
+                output: process.stdout.take(),
                 process,
                 wanted: false,
                 taken: 0,
@@ -128,8 +134,7 @@ impl RealChild {
 
     /// Does an act on this child. Others are for others.
     pub fn act(&mut self, act: &Act)
-        ensures number { self.new.k ≡ self.old.k }
-        ensures exited { self.new.exited ≡ self.old.exited }
+        ensures { Does act.now self.old self.new }
     {
         match act {
             Act::Feed { k, bytes } if *k == self.k => self.feed(bytes.as_slice()),
@@ -143,41 +148,37 @@ impl RealChild {
 
     // Writes all bytes to its input, and waits until they are taken. A failure ends the input.
     fn feed(&mut self, bytes: &[u8])
-        ensures number { self.new.k ≡ self.old.k }
-        ensures exited { self.new.exited ≡ self.old.exited }
+        ensures { Fed bytes.now self.old self.new }
     {
-        if let Some(input) = &mut self.process.stdin {
+        if let Some(input) = &mut self.input {
             match input.write_all(bytes) {
                 Ok(()) => self.taken = self.taken.saturating_add(bytes.len() as u64),
                 Err(_) => {
                     self.input_failed = true;
-                    self.process.stdin = None;
+                    self.input = None;
                 }
             }
         }
     }
 
     fn end_input(&mut self)
-        ensures number { self.new.k ≡ self.old.k }
-        ensures exited { self.new.exited ≡ self.old.exited }
+        ensures { self.new ≡ input_ended self.old }
     {
         self.input_failed = false;
-        self.process.stdin = None;
+        self.input = None;
     }
 
     fn end_output(&mut self)
-        ensures number { self.new.k ≡ self.old.k }
-        ensures exited { self.new.exited ≡ self.old.exited }
+        ensures { self.new ≡ output_ended self.old }
     {
         self.wanted = false;
         self.leaving = true;
-        self.process.stdout = None;
+        self.output = None;
     }
 
     // A program that is gone already is reaped all the same.
     fn kill(&mut self)
-        ensures number { self.new.k ≡ self.old.k }
-        ensures exited { self.new.exited ≡ self.old.exited }
+        ensures { IsKilled self.old self.new }
     {
         let _ = self.process.kill();
         self.leaving = true;
@@ -185,8 +186,8 @@ impl RealChild {
 
     /// What is to be said of its input and its exit. To learn of its exit it waits for it.
     pub fn next_event(&mut self) -> Option<Event>
-        ensures which { is_own self.old result ≡ true }
-        ensures none { IsNone result → self.new ≡ self.old }
+        ensures which { result ≡ said_of self.old }
+        ensures state { Said self.old result self.new }
     {
         if self.taken > 0 {
             let n = self.taken;
@@ -203,11 +204,13 @@ impl RealChild {
         None
     }
 
-    /// Waits until the program has ended, and reaps it.
+    /// Waits until the program has ended, and reaps it. Its input is closed first, so that a program which
+    /// reads to the end can finish.
     pub fn wait(&mut self) -> Event
         ensures event { result ≡ Event.Exited self.old.k }
-        ensures exited { self.new.exited ≡ true }
+        ensures state { IsReaped self.old self.new }
     {
+        self.input = None;
         let _ = self.process.wait();
         self.exited = true;
         Event::Exited { k: self.k }
@@ -215,7 +218,8 @@ impl RealChild {
 
     /// Kills and reaps a program that still runs.
     pub fn end(&mut self)
-        ensures { self.new.exited ≡ true }
+        ensures ended { self.new.exited ≡ true }
+        ensures state { IsEnded self.old self.new }
     {
         if !self.exited {
             self.kill();
@@ -226,15 +230,15 @@ impl RealChild {
     /// One read of its output, where it is asked for.
     pub fn read(&mut self, alloc: Global, room: &mut [u8]) -> Option<Piece>
         requires { 0 < length room.old }
+        ensures which { is_some result ≡ can_read self.old }
         ensures within { IfSome result (λ piece. is_within (length room.old) piece ≡ true) }
-        ensures wanted { IsSome result → self.old.wanted ≡ true }
         ensures none { IsNone result → self.new ≡ self.old }
-        ensures number { self.new.k ≡ self.old.k }
+        ensures state { IfSome result (λ piece. HasRead self.old piece self.new) }
     {
         if !self.wanted {
             return None;
         }
-        let piece = match &mut self.process.stdout {
+        let piece = match &mut self.output {
             Some(output) => read_piece(alloc, output, room),
             None => return None,
         };

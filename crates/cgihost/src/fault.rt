@@ -1,6 +1,7 @@
 // What the program says of a status, and the number that it ends with.
-ghost use Rattle.std.specs.Prelude.{◌≡◌};
-ghost use Rattle.cgihost.specs.StatusLines.{number_of as number, line_of};
+ghost use Rattle.std.specs.Prelude.{◌≡◌, Some};
+ghost use Rattle.std.specs.Char.{encode_utf8};
+ghost use Rattle.cgihost.specs.StatusLines.{number_of as number, line_of, refusal_of, shown, is_hidden};
 
 use host_run::{SiteFault, Status};
 use std::fmt;
@@ -33,8 +34,12 @@ struct Refusal<'s>(&'s SiteFault);
 #[derive(Clone, Copy)]
 struct Shown<'s>(&'s str);
 
+// One character of such a text.
+#[derive(Clone, Copy)]
+struct ShownChar(char);
+
 impl fmt::Display for FaultLine<'_> {
-    ghost output = { λ line. line_of line.0.now };
+    ghost output = { λ line. Some (line_of line.0.now) };
 
     fn fmt<W: fmt::Write>(&self, f: &mut fmt::Formatter<W>) -> fmt::Result {
         match self.0 {
@@ -53,6 +58,8 @@ impl fmt::Display for FaultLine<'_> {
 }
 
 impl fmt::Display for Refusal<'_> {
+    ghost output = { λ refusal. Some (refusal_of refusal.0.now) };
+
     fn fmt<W: fmt::Write>(&self, f: &mut fmt::Formatter<W>) -> fmt::Result {
         match self.0 {
             SiteFault::NotToml => f.write_str("not TOML"),
@@ -67,14 +74,33 @@ impl fmt::Display for Refusal<'_> {
 }
 
 impl fmt::Display for Shown<'_> {
+    ghost output = { λ text. Some (shown text.0.now) };
+
     fn fmt<W: fmt::Write>(&self, f: &mut fmt::Formatter<W>) -> fmt::Result {
-        for c in self.0.chars() {
-            if c < ' ' || c == '\x7f' || c == '\\' {
-                write!(f, "\\x{:02X}", c as u32)?;
-            } else {
-                f.write_char(c)?;
-            }
+        let mut rest = self.0.chars();
+        while let Some(c) = rest.next() {
+            f.write(ShownChar(c))?;
         }
         Ok(())
+    }
+}
+
+// A character that is not shown as it is.
+fn is_hidden(c: char) -> bool
+    ensures { result ≡ is_hidden c }
+{
+    c < ' ' || c == '\x7f' || c == '\\'
+}
+
+impl fmt::Display for ShownChar {
+    ghost output = { λ c. Some (shown (encode_utf8 c.0)) };
+
+    fn fmt<W: fmt::Write>(&self, f: &mut fmt::Formatter<W>) -> fmt::Result {
+        let c = self.0;
+        if is_hidden(c) {
+            write!(f, "\\x{:02X}", c as u32)
+        } else {
+            f.write_char(c)
+        }
     }
 }

@@ -2,6 +2,11 @@
 //! `run`, says on standard error what went wrong, and ends with the number of the status.
 #![tactic(auto)]
 
+ghost use Rattle.std.specs.Prelude.{◌≡◌, ◌⊎◌, drop, IfOk, IfErr, OnErr};
+ghost use Rattle.std.specs.Process.{exit_status};
+ghost use Rattle.std.specs.Vec.Iter.{into_iter_items};
+ghost use Rattle.cgihost.specs.StatusLines.{number_of as number};
+
 mod child;
 mod fault;
 mod once;
@@ -14,19 +19,31 @@ use fault::{FaultLine, number_of};
 use host_run::{Status, run};
 use once::OnceWorld;
 use sink::StdSink;
+use std::alloc::Global;
 use std::env;
+use std::env::Args;
 use std::io::ErrorKind;
 use std::process::ExitCode;
 use std::rt::Env;
 use store::FileStore;
 
+// The words after the first.
+fn after_first(alloc: Global, words: Args) -> Result<Vec<String>, Status>
+    ensures words { IfOk result (λ rest. rest.items ≡ drop 1 (into_iter_items words)) }
+    ensures memory { OnErr result (result ≡ Err Status.NoMemory) }
+{
+    match words.skip(1).collect(alloc) {
+        Ok(rest) => Ok(rest),
+        Err(_) => Err(Status::NoMemory),
+    }
+}
+
 // The words after the program's name. A word that is not UTF-8 is of no form.
-fn words<R: Env + AllocGlobal>(rt: &R) -> Result<Vec<String>, Status> {
+fn words<R: Env + AllocGlobal>(rt: &R) -> Result<Vec<String>, Status>
+    ensures { IfErr result (λ status. (status ≡ Status.Usage) ⊎ (status ≡ Status.NoMemory)) }
+{
     match env::args(rt) {
-        Ok(words) => match words.skip(1).collect(rt.alloc()) {
-            Ok(words) => Ok(words),
-            Err(_) => Err(Status::NoMemory),
-        },
+        Ok(words) => after_first(rt.alloc(), words),
         Err(error) => Err(match error.kind() {
             ErrorKind::OutOfMemory => Status::NoMemory,
             _ => Status::Usage,
@@ -35,7 +52,9 @@ fn words<R: Env + AllocGlobal>(rt: &R) -> Result<Vec<String>, Status> {
 }
 
 // Says on standard error what the status is, unless the work was done.
-fn end<R: Eprint>(rt: &R, status: &Status) -> ExitCode {
+fn end<R: Eprint>(rt: &R, status: &Status) -> ExitCode
+    ensures { exit_status result ≡ number status.now }
+{
     let number = number_of(status);
     if number != 0 {
         let _ = rt.eprintln(FaultLine(status));

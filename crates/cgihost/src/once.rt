@@ -1,6 +1,7 @@
 // The real world of one connection over standard input and output.
 ghost use Rattle.std.specs.Prelude.{◌≡◌, ◌+◌, IfOk, OnOk, OnErr, All, vec_len};
 ghost use Rattle.host_trace.specs.Told.{is_failure};
+ghost use Rattle.cgihost.specs.Connection.{connection_of, just_accepted};
 
 use super::streams::Streams;
 use host_base::{NoMemory, Site};
@@ -34,10 +35,12 @@ fn is_failure(event: &Event) -> bool
 }
 
 impl<R: Input + Print + Processes<Started = SystemProcess> + Drop> Outside for OnceOutside<R> {
-    ghost use Rattle.std.specs.Prelude.{◌≡◌, ◌≤◌, true};
+    ghost use Rattle.std.specs.Prelude.{◌≡◌, ◌≤◌, true, false};
     ghost use Rattle.host_base.specs.Outsides.{Rose};
     ghost use Rattle.host_trace.specs.Told.{Hears, ActsOn, carries_nothing, is_failure, is_full_book};
     ghost use Rattle.cgihost.specs.OnceEvents.{is_once_event, untold, none_full};
+    ghost use Rattle.cgihost.specs.Connection.{connection_of, ConnectionDoes};
+    ghost use Rattle.cgihost.specs.Handed.{IsNext};
 
     ghost trace = { untold };
 
@@ -53,8 +56,10 @@ impl<R: Input + Print + Processes<Started = SystemProcess> + Drop> Outside for O
         ensures faults { self.old.faults ≤ self.new.faults }
         ensures full_books { none_full self.old ≤ none_full self.new }
         ensures failure { is_failure result ≡ true → Rose self.old.faults self.new.faults }
+        ensures calm { is_failure result ≡ false → self.new.faults ≡ self.old.faults }
         ensures full { is_full_book result ≡ true → Rose (none_full self.old) (none_full self.new) }
         ensures form { is_once_event result ≡ true }
+        ensures next { IsNext (connection_of self.old.streams) result (connection_of self.new.streams) }
     {
         let event = self.streams.next();
         if is_failure(&event) {
@@ -72,6 +77,8 @@ impl<R: Input + Print + Processes<Started = SystemProcess> + Drop> Outside for O
 
         // Nothing is kept that takes memory.
         ensures done { result ≡ Acted.Done }
+        ensures calm { self.new.faults ≡ self.old.faults }
+        ensures does { ConnectionDoes act.now (connection_of self.old.streams) (connection_of self.new.streams) }
     {
         self.streams.act(act);
         Acted::Done
@@ -106,6 +113,7 @@ impl<R: Input + Print + Processes<Started = SystemProcess> + Copy + Drop> OnceWo
     fn outsides(&self, limit: u32) -> Result<Vec<OnceOutside<R>>, NoMemory>
         ensures count { IfOk result (λ outs. vec_len outs ≡ 1) }
         ensures limit { IfOk result (λ outs. All (λ o. o.limit ≡ limit) outs.items) }
+        ensures fresh { IfOk result (λ outs. All (λ o. connection_of o.streams ≡ just_accepted) outs.items) }
     {
         let mut outs = Vec::new(self.alloc);
         outs.push(OnceOutside {
@@ -120,6 +128,7 @@ impl<R: Input + Print + Processes<Started = SystemProcess> + Copy + Drop> OnceWo
     fn begin(&mut self, limit: u32) -> Result<Vec<OnceOutside<R>>, EnterFault>
         ensures count { IfOk result (λ outs. vec_len outs ≡ 1) }
         ensures limit { IfOk result (λ outs. All (λ o. o.limit ≡ limit) outs.items) }
+        ensures fresh { IfOk result (λ outs. All (λ o. connection_of o.streams ≡ just_accepted) outs.items) }
         ensures out { OnOk result (self.new.out ≡ self.old.out + 1) }
         ensures err { OnErr result (self.new ≡ self.old) }
         ensures memory { OnErr result (result ≡ Err EnterFault.NoMemory) }
@@ -144,6 +153,7 @@ impl<R: Input + Print + Processes<Started = SystemProcess> + Copy + Drop + Send>
     ghost use Rattle.host_base.specs.Outsides.{Rose};
     ghost use Rattle.host_trace.specs.Told.{IsNew, Joins};
     ghost use Rattle.cgihost.specs.OnceEvents.{untold, none_given};
+    ghost use Rattle.cgihost.specs.Connection.{connection_of, just_accepted};
 
     type Out = OnceOutside<R>;
 
@@ -164,6 +174,7 @@ impl<R: Input + Print + Processes<Started = SystemProcess> + Copy + Drop + Send>
         ensures count { IfOk result (λ outs. vec_len outs ≡ loops) }
         ensures told { IfOk result (λ outs. All (λ o. IsNew (none_given self.old) (untold o)) outs.items) }
         ensures limit { IfOk result (λ outs. All (λ o. o.limit ≡ site.now.limits.children) outs.items) }
+        ensures fresh { IfOk result (λ outs. All (λ o. connection_of o.streams ≡ just_accepted) outs.items) }
         ensures out { OnOk result (self.new.out ≡ self.old.out + loops) }
         ensures given { none_given self.new ≡ none_given self.old }
         ensures err { OnErr result (self.new.out ≡ self.old.out) }

@@ -1,5 +1,5 @@
 // The real store.
-ghost use Rattle.std.specs.Prelude.{◌≡◌, ◌≤◌, None, IfOk, vec_len};
+ghost use Rattle.std.specs.Prelude.{◌≡◌, ◌+◌, take, IfOk, IfSome};
 
 use host_base::{SiteStore, StoreFault};
 use std::alloc::Global;
@@ -31,18 +31,17 @@ impl<R> FileStore<R> {
     }
 }
 
-impl<R: Files> FileStore<R> {
-    // The whole file, where it is not longer than the longest; else one byte more than that of it.
-    fn read_front(&self, name: &str) -> io::Result<Vec<u8>> {
-        let file = File::open(&self.rt, name)?;
-        let mut bytes = Vec::new(self.alloc);
-        file.take(LONGEST + 1).read_to_end(&mut bytes)?;
-        Ok(bytes)
-    }
+// All that the file has left, where that is not longer than the longest; else one byte more than that of it.
+fn front_of<F: Read + Drop>(alloc: Global, file: F) -> io::Result<Vec<u8>>
+    ensures { IfOk result (λ front. IfSome (F.remaining file) (λ all. front.items ≡ take (LONGEST + 1) all)) }
+{
+    let mut bytes = Vec::new(alloc);
+    file.take(LONGEST + 1).read_to_end(&mut bytes)?;
+    Ok(bytes)
 }
 
 impl<R: Files> SiteStore for FileStore<R> {
-    ghost use Rattle.std.specs.Prelude.{◌≡◌, ◌≤◌, None, IfOk, vec_len};
+    ghost use Rattle.std.specs.Prelude.{◌≡◌, ◌≤◌, None, IfOk, OnOk, vec_len};
     ghost use Rattle.host_base.specs.Outsides.{Rose, Holds};
 
     ghost stored = { λ _. None };
@@ -53,9 +52,11 @@ impl<R: Files> SiteStore for FileStore<R> {
         ensures found { IfOk result (λ bytes. Holds None name.now bytes.items) }
         ensures count { self.old.faults ≤ self.new.faults }
         ensures cause { result ≡ Err StoreFault.Failed → Rose self.old.faults self.new.faults }
+        ensures calm { OnOk result (self.new.faults ≡ self.old.faults) }
         ensures longest { IfOk result (λ bytes. vec_len bytes ≤ 1048576) }
     {
-        match self.read_front(name) {
+        let front = File::open(&self.rt, name).and_then(|file| front_of(self.alloc, file));
+        match front {
             Ok(bytes) if bytes.len() as u64 <= LONGEST => return Ok(bytes),
             Err(error) if error.kind() == ErrorKind::OutOfMemory => {
                 return Err(StoreFault::NoMemory);

@@ -3,7 +3,7 @@ ghost use Rattle.std.specs.Prelude.{◌≡◌, true, vec_len};
 ghost use Rattle.cgihost.specs.OnceEvents.{is_due};
 
 use super::child::{RealChild, StartFault};
-use super::piece::{MOST, Piece, read_piece};
+use super::piece::{MOST, read_piece};
 use host_base::{Launch, NoMemory, Peer, Text};
 use host_trace::{Act, Event};
 use std::alloc::Global;
@@ -32,13 +32,15 @@ pub struct Streams<R> {
 }
 
 impl<R: Input + Print + Processes<Started = SystemProcess> + Drop> Streams<R> {
-    ghost use Rattle.std.specs.Prelude.{◌≡◌, ◌||◌, true, false, is_some, IsNone, IfOk};
+    ghost use Rattle.std.specs.Prelude.{◌≡◌, ◌||◌, true, false, is_some, IfOk};
     ghost use Rattle.cgihost.specs.OnceEvents.{is_once, is_once_event};
-    ghost use Rattle.cgihost.specs.Asked.{is_asked, is_asked_for, runs, wants_client, shuts, Keeps};
+    ghost use Rattle.cgihost.specs.Asked.{is_asked, is_asked_for, runs, wants_client, shuts};
+    ghost use Rattle.cgihost.specs.Connection.{connection_of, just_accepted, ConnectionDoes, IsWritten, Starts};
+    ghost use Rattle.cgihost.specs.Handed.{first_due, after_due, hears_child, ChildHeard, hears_client, ClientHeard, IsLast, IsNext, Ends};
 
     /// A connection that was just accepted.
     pub fn new(rt: R, alloc: Global) -> Result<Self, NoMemory>
-        ensures { IfOk result (λ s. is_some s.due ≡ true) }
+        ensures { IfOk result (λ streams. connection_of streams ≡ just_accepted) }
     {
         let room = vec![in alloc; 0u8; MOST]?;
         let peer = Peer(Text::copy_of(alloc, "127.0.0.1")?);
@@ -61,6 +63,7 @@ impl<R: Input + Print + Processes<Started = SystemProcess> + Drop> Streams<R> {
     pub fn act(&mut self, act: &Act)
         ensures wanted { self.new.client_wanted ≡ (wants_client act.now || self.old.client_wanted) }
         ensures shut { self.new.shut ≡ (shuts act.now || self.old.shut) }
+        ensures does { ConnectionDoes act.now (connection_of self.old) (connection_of self.new) }
     {
         match act {
             Act::WantClient { .. } => self.client_wanted = true,
@@ -78,7 +81,7 @@ impl<R: Input + Print + Processes<Started = SystemProcess> + Drop> Streams<R> {
 
     // Nothing follows a piece that was not written whole.
     fn write(&mut self, bytes: &[u8])
-        ensures { Keeps self.old self.new }
+        ensures { IsWritten (connection_of self.old) (connection_of self.new) }
     {
         if !self.client_gone && self.rt.write_all(bytes).is_err() {
             self.client_gone = true;
@@ -87,7 +90,7 @@ impl<R: Input + Print + Processes<Started = SystemProcess> + Drop> Streams<R> {
 
     // One child at a time: a program is not started while another runs.
     fn start(&mut self, k: u64, launch: &Launch)
-        ensures { Keeps self.old self.new }
+        ensures { Starts k (connection_of self.old) (connection_of self.new) }
     {
         if self.runs() {
             self.due = Some(Event::StartFailed { k });
@@ -121,6 +124,7 @@ impl<R: Input + Print + Processes<Started = SystemProcess> + Drop> Streams<R> {
     pub fn next(&mut self) -> Event
         ensures form { is_once_event result ≡ true }
         ensures asked { is_asked_for self.old result ≡ true }
+        ensures next { IsNext (connection_of self.old) result (connection_of self.new) }
     {
         if let Some(event) = self.next_due() {
             return event;
@@ -137,9 +141,8 @@ impl<R: Input + Print + Processes<Started = SystemProcess> + Drop> Streams<R> {
     fn next_due(&mut self) -> Option<Event>
         ensures form { is_once result ≡ true }
         ensures asked { is_asked self.old result ≡ true }
-        ensures child { self.new.child ≡ self.old.child }
-        ensures wanted { self.new.client_wanted ≡ self.old.client_wanted }
-        ensures shut { self.new.shut ≡ self.old.shut }
+        ensures which { result ≡ first_due (connection_of self.old) }
+        ensures state { connection_of self.new ≡ after_due (connection_of self.old) }
     {
         if self.client_gone && !self.shut {
             self.client_gone = false;
@@ -157,9 +160,8 @@ impl<R: Input + Print + Processes<Started = SystemProcess> + Drop> Streams<R> {
     fn hear_child(&mut self) -> Option<Event>
         ensures form { is_once result ≡ true }
         ensures asked { is_asked self.old result ≡ true }
-        ensures child { IsNone result → self.new.child ≡ self.old.child }
-        ensures wanted { self.new.client_wanted ≡ self.old.client_wanted }
-        ensures shut { self.new.shut ≡ self.old.shut }
+        ensures heard { is_some result ≡ hears_child self.old.child }
+        ensures state { ChildHeard (connection_of self.old) result (connection_of self.new) }
     {
         let child = self.child.as_mut()?;
         if let Some(event) = child.next_event() {
@@ -167,46 +169,33 @@ impl<R: Input + Print + Processes<Started = SystemProcess> + Drop> Streams<R> {
         }
         let piece = child.read(self.alloc, self.room.as_mut_slice())?;
         let k = child.number();
-        match piece {
-            Piece::Some(bytes) => Some(Event::ChildBytes { k, bytes }),
-            Piece::End => Some(Event::ChildEof { k }),
-            Piece::Failed => Some(Event::ChildBroken { k }),
-            Piece::NoMemory => {
-                if self.shut {
-                    return Some(Event::ChildBroken { k });
-                }
-                self.due = Some(Event::ChildBroken { k });
-                Some(Event::NoRoom { c: 0 })
-            }
+        let event = piece.into_child_event(k, self.shut);
+        if let Event::NoRoom { .. } = event {
+            self.due = Some(Event::ChildBroken { k });
         }
+        Some(event)
     }
 
     fn hear_client(&mut self) -> Option<Event>
         ensures form { is_once result ≡ true }
         ensures asked { is_asked self.old result ≡ true }
-        ensures child { self.new.child ≡ self.old.child }
-        ensures wanted { IsNone result → self.new.client_wanted ≡ self.old.client_wanted }
-        ensures shut { self.new.shut ≡ self.old.shut }
+        ensures heard { is_some result ≡ hears_client (connection_of self.old) }
+        ensures state { ClientHeard (connection_of self.old) result (connection_of self.new) }
     {
         if !self.client_wanted || self.shut {
             return None;
         }
         self.client_wanted = false;
         let mut input = self.rt.reader();
-        Some(
-            match read_piece(self.alloc, &mut input, self.room.as_mut_slice()) {
-                Piece::Some(bytes) => Event::ClientBytes { c: 0, bytes },
-                Piece::End => Event::ClientEof { c: 0 },
-                Piece::Failed => Event::ClientGone { c: 0 },
-                Piece::NoMemory => Event::NoRoom { c: 0 },
-            },
-        )
+        let piece = read_piece(self.alloc, &mut input, self.room.as_mut_slice());
+        Some(piece.into_client_event())
     }
 
     // A child that runs is waited for, since nothing else can come.
     fn hear_end(&mut self) -> Event
         ensures form { is_once_event result ≡ true }
         ensures asked { is_asked_for self.old result ≡ true }
+        ensures last { IsLast (connection_of self.old) result (connection_of self.new) }
     {
         match &mut self.child {
             Some(child) if !child.has_exited() => child.wait(),
@@ -216,7 +205,8 @@ impl<R: Input + Print + Processes<Started = SystemProcess> + Drop> Streams<R> {
 
     /// Kills and reaps a child that still runs.
     pub fn end(&mut self)
-        ensures { runs self.new.child ≡ false }
+        ensures ended { runs self.new.child ≡ false }
+        ensures state { Ends (connection_of self.old) (connection_of self.new) }
     {
         if let Some(child) = &mut self.child {
             child.end();
