@@ -204,7 +204,7 @@ out_is Dropped e = absurd (cc)
 begun_of : (b s r x : Bool) → born_by b s r x ≡ true → s ≡ true → b ≡ true
 begun_of b s r x h e = grind (arith, common_steps)
 
-started_of : (b s r x : Bool) → born_by b s r x ≡ true → x ≡ true → s ≡ true
+pub started_of : (b s r x : Bool) → born_by b s r x ≡ true → x ≡ true → s ≡ true
 started_of b s r x h e = grind (arith, common_steps)
 
 none_pending : (m : ℕ) → nat_lt 262144 (0 - m) ≡ false
@@ -243,22 +243,31 @@ module _ (site : Site) (mid : Core) (T : List Item) (ev : Event) (found begun : 
     (cl : is_closed (acted mid found begun) ≡ true)
     (b : IsBuilt site.limits (after_step T ev (acts_of mid found begun)))
     (u : mid.unbuilt ≡ false) (lu : (acted mid found begun).unbuilt ≡ false) where
-  V : List Item
+  abbrev V : List Item
   V = T ++ In ev ∷ []
 
-  started_end : started (after_step T ev (acts_of mid found begun)) 0 ≡ mid.child.started
+  abbrev U : List Item
+  U = after_step T ev (acts_of mid found begun)
+
+  abbrev last : Core
+  last = acted mid found begun
+
+  abbrev replied : Core
+  replied = answered mid found
+
+  started_end : started U 0 ≡ mid.child.started
   started_end = sym n.child.started ∙ (keeps-acted mid found begun).started
 
-  exited_end : exited (after_step T ev (acts_of mid found begun)) 0 ≡ mid.child.exited
+  exited_end : exited U 0 ≡ mid.child.exited
   exited_end = sym n.child.exited ∙ (keeps-acted mid found begun).exited
 
-  run_end : run site (after_step T ev (acts_of mid found begun)) 0 0 ≡ outcome_said (acted mid found begun).child.outcome
-  run_end = outcome-built site.limits (after_step T ev (acts_of mid found begun)) b ∙ ap outcome_said (sym (n.child.outcome lu))
+  run_end : run site U 0 0 ≡ outcome_said last.child.outcome
+  run_end = outcome-built site.limits U b ∙ ap outcome_said (sym (n.child.outcome lu))
 
-  child_mid : (answered mid found).child ≡ mid.child
+  child_mid : replied.child ≡ mid.child
   child_mid = child-answered mid found
 
-  over_mid : is_over (answered mid found) ≡ (mid.stopped || mid.unbuilt)
+  over_mid : is_over replied ≡ (mid.stopped || mid.unbuilt)
   over_mid = let q = keeps-answered mid found in rw (q.stopped, q.unbuilt) refl
 
   begun_mid : mid.child.started ≡ true → mid.child.begun ≡ true
@@ -271,32 +280,30 @@ module _ (site : Site) (mid : Core) (T : List Item) (ev : Event) (found begun : 
   calm_mid e = rw (begun_mid e) at cm
 
   outcome_end : mid.child.started ≡ true →
-      (acted mid found begun).child.outcome ≡ (if (answered mid found).lost && not mid.shut then decided true mid.child.outcome Dropped else mid.child.outcome)
+      last.child.outcome ≡ (if replied.lost && not mid.shut then decided true mid.child.outcome Dropped else mid.child.outcome)
   outcome_end e = (begun_end mid found begun (begun_mid e)).outcome
 
   -- ---- EndInput
 
-  input_due : is_input_due (answered mid found) ≡ (mid.child.started && not mid.child.input_ended)
+  input_due : is_input_due replied ≡ (mid.child.started && not mid.child.input_ended)
   input_due = ap (λ c. c.started && not c.input_ended) child_mid
 
-  input_equal : (must_end_input site (after_step T ev (acts_of mid found begun)) 0 0 && not (input_ended (T ++ In ev ∷ []) 0)) ≡ is_input_due (answered mid found)
+  input_equal : (must_end_input site U 0 0 && not (input_ended V 0)) ≡ is_input_due replied
   input_equal =
       rw (started_end, exited_end, ← k.child.input_ended)
-      (input_same mid.child.started mid.child.exited mid.child.input_ended (not (Demand.is_undecided (run site (after_step T ev (acts_of mid found begun)) 0 0))) x.fed ∙ sym input_due)
+      (input_same mid.child.started mid.child.exited mid.child.input_ended (not (Demand.is_undecided (run site U 0 0))) x.fed ∙ sym input_due)
 
   -- ---- Kill
 
-  kill_due : is_kill_due (answered mid found)
-      ≡ (mid.child.started && ((answered mid found).lost || (mid.stopped || mid.unbuilt) || is_dropped mid.child.outcome) && not mid.child.exited && not mid.child.killed)
+  kill_due : is_kill_due replied
+      ≡ (mid.child.started && (replied.lost || (mid.stopped || mid.unbuilt) || is_dropped mid.child.outcome) && not mid.child.exited && not mid.child.killed)
   kill_due =
-      ap (λ c. c.started && ((answered mid found).lost || is_over (answered mid found) || is_dropped c.outcome) && not c.exited && not c.killed) child_mid
-      ∙ ap (λ o. mid.child.started && ((answered mid found).lost || o || is_dropped mid.child.outcome) && not mid.child.exited && not mid.child.killed) over_mid
+      ap (λ c. c.started && (replied.lost || is_over replied || is_dropped c.outcome) && not c.exited && not c.killed) child_mid
+      ∙ ap (λ o. mid.child.started && (replied.lost || o || is_dropped mid.child.outcome) && not mid.child.exited && not mid.child.killed) over_mid
 
-  waited_end : mid.child.started ≡ true → is_output (acted mid found begun).child.outcome ≡ true →
-      is_waited_out site.limits 0 (since (is_child_eof 0) (after_step T ev (acts_of mid found begun))) ≡ (mid.stopped || (answered mid found).lost)
+  waited_end : mid.child.started ≡ true → is_output last.child.outcome ≡ true →
+      is_waited_out site.limits 0 (since (is_child_eof 0) U) ≡ (mid.stopped || replied.lost)
   waited_end e o =
-      let U = after_step T ev (acts_of mid found begun) in
-      let last = acted mid found begun in
       waited_by_items site (since (is_child_eof 0) U) range (since_built (is_child_eof 0) U b.kinds)
       ∙ (n.child.waited (out_is last.child.outcome o)
       ∙ (any_or is_stop (is_shut_for_memory 0) U
@@ -307,38 +314,38 @@ module _ (site : Site) (mid : Core) (T : List Item) (ev : Event) (found begun : 
       and_true true b f = f refl
       and_true false b f = refl
 
-  kill_equal : (must_kill site (after_step T ev (acts_of mid found begun)) 0 0 && not (killed (T ++ In ev ∷ []) 0)) ≡ is_kill_due (answered mid found)
+  kill_equal : (must_kill site U 0 0 && not (killed V 0)) ≡ is_kill_due replied
   kill_equal =
-      rw (started_end, exited_end, run_end, said_other (acted mid found begun).child.outcome, said_output (acted mid found begun).child.outcome, ← k.child.killed)
-      (kill_same mid.child.started mid.child.exited mid.child.killed (answered mid found).lost mid.stopped mid.shut mid.answered mid.unbuilt
-      (is_waited_out site.limits 0 (since (is_child_eof 0) (after_step T ev (acts_of mid found begun)))) mid.child.outcome (acted mid found begun).child.outcome
+      rw (started_end, exited_end, run_end, said_other last.child.outcome, said_output last.child.outcome, ← k.child.killed)
+      (kill_same mid.child.started mid.child.exited mid.child.killed replied.lost mid.stopped mid.shut mid.answered mid.unbuilt
+      (is_waited_out site.limits 0 (since (is_child_eof 0) U)) mid.child.outcome last.child.outcome
       calm_mid u outcome_end waited_end
       ∙ sym kill_due)
 
-  killed_end : killed (after_step T ev (acts_of mid found begun)) 0 ≡ (is_kill_due (answered mid found) || mid.child.killed)
-  killed_end = sym n.child.killed ∙ ((given-acted mid found begun).killed ∙ ap (λ c. is_kill_due (answered mid found) || c.killed) child_mid)
+  killed_end : killed U 0 ≡ (is_kill_due replied || mid.child.killed)
+  killed_end = sym n.child.killed ∙ ((given-acted mid found begun).killed ∙ ap (λ c. is_kill_due replied || c.killed) child_mid)
 
   -- ---- Release
 
-  release_due : is_release_due (answered mid found)
-      ≡ (mid.child.exited && ((answered mid found).lost || (mid.stopped || mid.unbuilt) || is_dropped mid.child.outcome) && not mid.child.output_ended)
+  release_due : is_release_due replied
+      ≡ (mid.child.exited && (replied.lost || (mid.stopped || mid.unbuilt) || is_dropped mid.child.outcome) && not mid.child.output_ended)
   release_due =
-      ap (λ c. c.exited && ((answered mid found).lost || is_over (answered mid found) || is_dropped c.outcome) && not c.output_ended) child_mid
-      ∙ ap (λ o. mid.child.exited && ((answered mid found).lost || o || is_dropped mid.child.outcome) && not mid.child.output_ended) over_mid
+      ap (λ c. c.exited && (replied.lost || is_over replied || is_dropped c.outcome) && not c.output_ended) child_mid
+      ∙ ap (λ o. mid.child.exited && (replied.lost || o || is_dropped mid.child.outcome) && not mid.child.output_ended) over_mid
 
-  no_kill : mid.child.exited ≡ true → is_kill_due (answered mid found) ≡ false
+  no_kill : mid.child.exited ≡ true → is_kill_due replied ≡ false
   no_kill e =
       kill_due
-      ∙ (ap (λ v. mid.child.started && ((answered mid found).lost || (mid.stopped || mid.unbuilt) || is_dropped mid.child.outcome) && not v && not mid.child.killed) e
-      ∙ none mid.child.started ((answered mid found).lost || (mid.stopped || mid.unbuilt) || is_dropped mid.child.outcome) (not mid.child.killed))
+      ∙ (ap (λ v. mid.child.started && (replied.lost || (mid.stopped || mid.unbuilt) || is_dropped mid.child.outcome) && not v && not mid.child.killed) e
+      ∙ none mid.child.started (replied.lost || (mid.stopped || mid.unbuilt) || is_dropped mid.child.outcome) (not mid.child.killed))
     where
       none : (a b d : Bool) → (a && b && false && d) ≡ false
       none true true d = refl
       none true false d = refl
       none false b d = refl
 
-  doomed_mid : (not mid.child.killed || ((answered mid found).lost || (mid.stopped || mid.unbuilt) || is_dropped mid.child.outcome)) ≡ true
-  doomed_mid = more mid.child.killed mid.lost (answered mid found).lost (mid.stopped || mid.unbuilt) (is_dropped mid.child.outcome) (lost_more mid found) x.doomed
+  doomed_mid : (not mid.child.killed || (replied.lost || (mid.stopped || mid.unbuilt) || is_dropped mid.child.outcome)) ≡ true
+  doomed_mid = more mid.child.killed mid.lost replied.lost (mid.stopped || mid.unbuilt) (is_dropped mid.child.outcome) (lost_more mid found) x.doomed
     where
       more : (a l l' t d : Bool) → (l ≡ true → l' ≡ true) → (not a || (l || t || d)) ≡ true → (not a || (l' || t || d)) ≡ true
       more false l l' t d f h = refl
@@ -353,44 +360,44 @@ module _ (site : Site) (mid : Core) (T : List Item) (ev : Event) (found begun : 
       lost_more core true e = answered-lost core ∙ e
       lost_more core false e = refl
 
-  release_equal : (must_release site (after_step T ev (acts_of mid found begun)) 0 0 && not (output_ended (T ++ In ev ∷ []) 0)) ≡ is_release_due (answered mid found)
+  release_equal : (must_release site U 0 0 && not (output_ended V 0)) ≡ is_release_due replied
   release_equal =
-      rw (exited_end, run_end, said_other (acted mid found begun).child.outcome, killed_end, ← k.child.output_ended)
-      (release_same mid.child.exited mid.child.killed mid.child.output_ended (answered mid found).lost mid.stopped mid.shut mid.answered mid.unbuilt (is_kill_due (answered mid found))
-      mid.child.outcome (acted mid found begun).child.outcome (λ e. calm_mid (started_mid e)) u no_kill (λ e. outcome_end (started_mid e)) doomed_mid en
+      rw (exited_end, run_end, said_other last.child.outcome, killed_end, ← k.child.output_ended)
+      (release_same mid.child.exited mid.child.killed mid.child.output_ended replied.lost mid.stopped mid.shut mid.answered mid.unbuilt (is_kill_due replied)
+      mid.child.outcome last.child.outcome (λ e. calm_mid (started_mid e)) u no_kill (λ e. outcome_end (started_mid e)) doomed_mid en
       ∙ sym release_due)
 
-  output_end : output_ended (after_step T ev (acts_of mid found begun)) 0 ≡ (is_release_due (answered mid found) || mid.child.output_ended)
-  output_end = sym n.child.output_ended ∙ ((given-acted mid found begun).output_ended ∙ ap (λ c. is_release_due (answered mid found) || c.output_ended) child_mid)
+  output_end : output_ended U 0 ≡ (is_release_due replied || mid.child.output_ended)
+  output_end = sym n.child.output_ended ∙ ((given-acted mid found begun).output_ended ∙ ap (λ c. is_release_due replied || c.output_ended) child_mid)
 
   -- ---- WantChild
 
-  ask_due : is_ask_due (release_given (kill_given (input_given (answered mid found))))
+  ask_due : is_ask_due (release_given (kill_given (input_given replied)))
       ≡ (mid.child.started
-      && (not (output_ended (after_step T ev (acts_of mid found begun)) 0) && not (killed (after_step T ev (acts_of mid found begun)) 0) && not (answered mid found).lost && not (mid.stopped || mid.unbuilt))
+      && (not (output_ended U 0) && not (killed U 0) && not replied.lost && not (mid.stopped || mid.unbuilt))
       && is_undecided mid.child.outcome && not mid.child.asked)
   ask_due =
       rw (output_end, killed_end)
       (ap (λ c. c.started
-      && (not (is_release_due (answered mid found) || c.output_ended) && not (is_kill_due (answered mid found) || c.killed) && not (answered mid found).lost && not (is_over (answered mid found)))
+      && (not (is_release_due replied || c.output_ended) && not (is_kill_due replied || c.killed) && not replied.lost && not (is_over replied))
       && is_undecided c.outcome && not c.asked) child_mid
       ∙ ap (λ o. mid.child.started
-      && (not (is_release_due (answered mid found) || mid.child.output_ended) && not (is_kill_due (answered mid found) || mid.child.killed) && not (answered mid found).lost && not o)
+      && (not (is_release_due replied || mid.child.output_ended) && not (is_kill_due replied || mid.child.killed) && not replied.lost && not o)
       && is_undecided mid.child.outcome && not mid.child.asked) over_mid)
 
-  ask_equal : (must_ask site (after_step T ev (acts_of mid found begun)) 0 0 && not (child_wanted (T ++ In ev ∷ []) 0))
-      ≡ is_ask_due (release_given (kill_given (input_given (answered mid found))))
+  ask_equal : (must_ask site U 0 0 && not (child_wanted V 0))
+      ≡ is_ask_due (release_given (kill_given (input_given replied)))
   ask_equal =
-      rw (started_end, run_end, said_undecided (acted mid found begun).child.outcome, wanted_child mid (T ++ In ev ∷ []) k)
-      (ask_same mid.child.started (killed (after_step T ev (acts_of mid found begun)) 0) (output_ended (after_step T ev (acts_of mid found begun)) 0)
-      (is_pending_high (after_step T ev (acts_of mid found begun)) 0) mid.child.asked (answered mid found).lost mid.stopped mid.shut mid.answered mid.unbuilt
-      mid.child.outcome (acted mid found begun).child.outcome calm_mid u (not_high (acted mid found begun) (after_step T ev (acts_of mid found begun)) n cl) outcome_end
+      rw (started_end, run_end, said_undecided last.child.outcome, wanted_child mid V k)
+      (ask_same mid.child.started (killed U 0) (output_ended U 0)
+      (is_pending_high U 0) mid.child.asked replied.lost mid.stopped mid.shut mid.answered mid.unbuilt
+      mid.child.outcome last.child.outcome calm_mid u (not_high last U n cl) outcome_end
       ∙ sym ask_due)
 
-  asked_end : child_wanted (after_step T ev (acts_of mid found begun)) 0 ≡ (is_ask_due (release_given (kill_given (input_given (answered mid found)))) || mid.child.asked)
+  asked_end : child_wanted U 0 ≡ (is_ask_due (release_given (kill_given (input_given replied))) || mid.child.asked)
   asked_end =
-      wanted_child (acted mid found begun) (after_step T ev (acts_of mid found begun)) n
-      ∙ ((given-acted mid found begun).asked ∙ ap (λ c. is_ask_due (release_given (kill_given (input_given (answered mid found)))) || c.asked) child_mid)
+      wanted_child last U n
+      ∙ ((given-acted mid found begun).asked ∙ ap (λ c. is_ask_due (release_given (kill_given (input_given replied))) || c.asked) child_mid)
 
   -- ---- what the child has in the end
 
@@ -402,49 +409,49 @@ module _ (site : Site) (mid : Core) (T : List Item) (ev : Event) (found begun : 
     ask = picked_ask mid found begun ∙ ap (λ d. when d (WantChild 0)) (sym ask_equal);
   }
 
-  input_end : started (after_step T ev (acts_of mid found begun)) 0 ≡ true → input_ended (after_step T ev (acts_of mid found begun)) 0 ≡ true
-  input_end e = sym n.child.input_ended ∙ by_fed (acted mid found begun).child.started (acted mid found begun).child.input_ended (fed-acted mid found begun) (n.child.started ∙ e)
+  input_end : started U 0 ≡ true → input_ended U 0 ≡ true
+  input_end e = sym n.child.input_ended ∙ by_fed last.child.started last.child.input_ended (fed-acted mid found begun) (n.child.started ∙ e)
     where
       by_fed : (s i : Bool) → (not s || i) ≡ true → s ≡ true → i ≡ true
       by_fed true i h e = h
       by_fed false i h e = absurd (cc)
 
-  kill_stands : must_kill site (after_step T ev (acts_of mid found begun)) 0 0 ≡ true → killed (after_step T ev (acts_of mid found begun)) 0 ≡ true
+  kill_stands : must_kill site U 0 0 ≡ true → killed U 0 ≡ true
   kill_stands m =
-      stood (must_kill site (after_step T ev (acts_of mid found begun)) 0 0) (killed (T ++ In ev ∷ []) 0) (is_kill_due (answered mid found)) (killed (after_step T ev (acts_of mid found begun)) 0)
-      kill_equal (killed_end ∙ ap (λ v. is_kill_due (answered mid found) || v) k.child.killed) m
+      stood (must_kill site U 0 0) (killed V 0) (is_kill_due replied) (killed U 0)
+      kill_equal (killed_end ∙ ap (λ v. is_kill_due replied || v) k.child.killed) m
 
-  release_stands : must_release site (after_step T ev (acts_of mid found begun)) 0 0 ≡ true → output_ended (after_step T ev (acts_of mid found begun)) 0 ≡ true
+  release_stands : must_release site U 0 0 ≡ true → output_ended U 0 ≡ true
   release_stands m =
-      stood (must_release site (after_step T ev (acts_of mid found begun)) 0 0) (output_ended (T ++ In ev ∷ []) 0) (is_release_due (answered mid found)) (output_ended (after_step T ev (acts_of mid found begun)) 0)
-      release_equal (output_end ∙ ap (λ v. is_release_due (answered mid found) || v) k.child.output_ended) m
+      stood (must_release site U 0 0) (output_ended V 0) (is_release_due replied) (output_ended U 0)
+      release_equal (output_end ∙ ap (λ v. is_release_due replied || v) k.child.output_ended) m
 
-  ask_stands : must_ask site (after_step T ev (acts_of mid found begun)) 0 0 ≡ true → child_wanted (after_step T ev (acts_of mid found begun)) 0 ≡ true
+  ask_stands : must_ask site U 0 0 ≡ true → child_wanted U 0 ≡ true
   ask_stands m =
-      stood (must_ask site (after_step T ev (acts_of mid found begun)) 0 0) (child_wanted (T ++ In ev ∷ []) 0) (is_ask_due (release_given (kill_given (input_given (answered mid found)))))
-      (child_wanted (after_step T ev (acts_of mid found begun)) 0)
-      ask_equal (asked_end ∙ ap (λ v. is_ask_due (release_given (kill_given (input_given (answered mid found)))) || v) (sym (wanted_child mid (T ++ In ev ∷ []) k))) m
+      stood (must_ask site U 0 0) (child_wanted V 0) (is_ask_due (release_given (kill_given (input_given replied))))
+      (child_wanted U 0)
+      ask_equal (asked_end ∙ ap (λ v. is_ask_due (release_given (kill_given (input_given replied))) || v) (sym (wanted_child mid V k))) m
 
-  killed_or_exited : started (after_step T ev (acts_of mid found begun)) 0 ≡ true →
-      (is_by_other (run site (after_step T ev (acts_of mid found begun)) 0 0)
-      || is_by_output (run site (after_step T ev (acts_of mid found begun)) 0 0) && is_waited_out site.limits 0 (since (is_child_eof 0) (after_step T ev (acts_of mid found begun)))) ≡ true →
-      (killed (after_step T ev (acts_of mid found begun)) 0 || exited (after_step T ev (acts_of mid found begun)) 0) ≡ true
-  killed_or_exited s d = by_exit (exited (after_step T ev (acts_of mid found begun)) 0) (killed (after_step T ev (acts_of mid found begun)) 0) (λ e. kill_stands (rw (s, e, d) refl))
+  killed_or_exited : started U 0 ≡ true →
+      (is_by_other (run site U 0 0)
+      || is_by_output (run site U 0 0) && is_waited_out site.limits 0 (since (is_child_eof 0) U)) ≡ true →
+      (killed U 0 || exited U 0) ≡ true
+  killed_or_exited s d = by_exit (exited U 0) (killed U 0) (λ e. kill_stands (rw (s, e, d) refl))
     where
       by_exit : (e v : Bool) → (e ≡ false → v ≡ true) → (v || e) ≡ true
       by_exit true true f = refl
       by_exit true false f = refl
       by_exit false v f = rw (f refl) refl
 
-  stopped_decided : stopped (after_step T ev (acts_of mid found begun)) ≡ true → started (after_step T ev (acts_of mid found begun)) 0 ≡ true →
-      (is_by_other (run site (after_step T ev (acts_of mid found begun)) 0 0)
-      || is_by_output (run site (after_step T ev (acts_of mid found begun)) 0 0) && is_waited_out site.limits 0 (since (is_child_eof 0) (after_step T ev (acts_of mid found begun)))) ≡ true
+  stopped_decided : stopped U ≡ true → started U 0 ≡ true →
+      (is_by_other (run site U 0 0)
+      || is_by_output (run site U 0 0) && is_waited_out site.limits 0 (since (is_child_eof 0) U)) ≡ true
   stopped_decided t s =
       let st : mid.child.started ≡ true = sym started_end ∙ s in
       let sp : mid.stopped ≡ true = sym (keeps-acted mid found begun).stopped ∙ (n.stopped ∙ t) in
-      rw (run_end, said_other (acted mid found begun).child.outcome, said_output (acted mid found begun).child.outcome)
-      (over_decided mid.stopped (answered mid found).lost mid.shut mid.answered mid.unbuilt mid.child.outcome (acted mid found begun).child.outcome
-      (is_waited_out site.limits 0 (since (is_child_eof 0) (after_step T ev (acts_of mid found begun)))) sp (calm_mid st) (outcome_end st) (waited_end st))
+      rw (run_end, said_other last.child.outcome, said_output last.child.outcome)
+      (over_decided mid.stopped replied.lost mid.shut mid.answered mid.unbuilt mid.child.outcome last.child.outcome
+      (is_waited_out site.limits 0 (since (is_child_eof 0) U)) sp (calm_mid st) (outcome_end st) (waited_end st))
     where
       over_decided : (stp l s r u : Bool) (o o' : Outcome) (w : Bool) → stp ≡ true → calm_by (s || r || (stp || u)) true (is_undecided o) ≡ true →
           o' ≡ (if l && not s then decided true o Dropped else o) → (is_output o' ≡ true → w ≡ (stp || l)) → (is_dropped o' || is_output o' && w) ≡ true
@@ -455,15 +462,15 @@ module _ (site : Site) (mid : Core) (T : List Item) (ev : Event) (found begun : 
       over_decided stp l s r u Dropped o' w t c e f =
           let g : o' ≡ Dropped = e ∙ if_same (l && not s) Dropped in rw g refl
 
-  pub child_good : is_child_of (after_step T ev (acts_of mid found begun)) 0 0 ≡ true → ChildGood site (step_of T ev (acts_of mid found begun)) 0 0
+  pub child_good : is_child_of U 0 0 ≡ true → ChildGood site (step_of T ev (acts_of mid found begun)) 0 0
   child_good here = record {
     account =
-        count_is true ((acted mid found begun).child.started || (acted mid found begun).child.refused) (acted mid found begun).child.exited
-        (count_by (is_start 0) (after_step T ev (acts_of mid found begun))) (count_by (is_start_answer 0) (after_step T ev (acts_of mid found begun)))
-        (count_by (is_exited 0) (after_step T ev (acts_of mid found begun)))
-        (n.child.starts ∙ ap one_if (n.child.begun ∙ child_start (after_step T ev (acts_of mid found begun)) here)) n.child.answers n.child.exits;
+        count_is true (last.child.started || last.child.refused) last.child.exited
+        (count_by (is_start 0) U) (count_by (is_start_answer 0) U)
+        (count_by (is_exited 0) U)
+        (n.child.starts ∙ ap one_if (n.child.begun ∙ child_start U here)) n.child.answers n.child.exits;
     children = given;
-    bodies = record { fed = not_fed (after_step T ev (acts_of mid found begun)) 0 n.first };
+    bodies = record { fed = not_fed U 0 n.first };
     feeds = record { ended = λ s d e. input_end s };
     handles_decided = record {
       input = λ s d. input_end s;
@@ -471,8 +478,8 @@ module _ (site : Site) (mid : Core) (T : List Item) (ev : Event) (found begun : 
       output = λ e d. release_stands (rw (e, d) refl);
     };
     lingers = record {
-      waited_out = λ s d e w. kill_stands (rw (s, e, d, w, or-true (is_by_other (run site (after_step T ev (acts_of mid found begun)) 0 0))) refl);
-      output = λ d e. release_stands (rw (e, d, or-true (is_by_other (run site (after_step T ev (acts_of mid found begun)) 0 0))) refl);
+      waited_out = λ s d e w. kill_stands (rw (s, e, d, w, or-true (is_by_other (run site U 0 0))) refl);
+      output = λ d e. release_stands (rw (e, d, or-true (is_by_other (run site U 0 0))) refl);
       asked = ask_stands;
     };
     stops = record { killed_or_gone = λ t s. killed_or_exited s (stopped_decided t s) };

@@ -321,17 +321,29 @@ module _ (site : Site) (mid : Core) (T : List Item) (ev : Event) (found begun : 
     (b : IsBuilt site.limits (after_step T ev (acts_of mid found begun)))
     (u : mid.unbuilt ≡ false)
     (known : is_known (after_step T ev (acts_of mid found begun)) 0 ≡ true) where
-  h_of : Core
-  h_of = handled (answered mid found)
+  abbrev V : List Item
+  V = T ++ In ev ∷ []
+
+  abbrev U : List Item
+  U = after_step T ev (acts_of mid found begun)
+
+  abbrev last : Core
+  last = acted mid found begun
+
+  -- before the connection is closed, and after it
+  abbrev h : Core
+  h = handled (answered mid found)
+
+  abbrev d : Core
+  d = closed h
 
   peer_mid : is_some mid.peer ≡ true
-  peer_mid = ap (λ p. is_some p) (sym (keeps-acted mid found begun).peer) ∙ known_peer (acted mid found begun) (after_step T ev (acts_of mid found begun)) n.peer known
+  peer_mid = ap (λ p. is_some p) (sym (keeps-acted mid found begun).peer) ∙ known_peer last U n.peer known
 
   -- ---- Shut
 
-  over_is : (is_over (handled (answered mid found)) && is_some (handled (answered mid found)).peer) ≡ mid.stopped
+  over_is : (is_over h && is_some h.peer) ≡ mid.stopped
   over_is =
-      let h = handled (answered mid found) in
       let a = handled_answered mid found in
       ap (λ v. (v || h.unbuilt) && is_some h.peer) a.stopped
       ∙ (ap (λ v. (mid.stopped || v) && is_some h.peer) (a.unbuilt ∙ u)
@@ -342,62 +354,58 @@ module _ (site : Site) (mid : Core) (T : List Item) (ev : Event) (found begun : 
       both true = refl
       both false = refl
 
-  stopped_end : stopped (after_step T ev (acts_of mid found begun)) ≡ mid.stopped
+  stopped_end : stopped U ≡ mid.stopped
   stopped_end = sym n.stopped ∙ (keeps-acted mid found begun).stopped
 
-  pick_by : (first second : Option Why) → due_why (handled (answered mid found)) ≡ first → due_why (gone_on (closed (handled (answered mid found))) begun) ≡ second →
+  pick_by : (first second : Option Why) → due_why h ≡ first → due_why (gone_on d begun) ≡ second →
       picked (is_shut 0) (acts_of mid found begun) ≡ shuts first ++ shuts second
-  pick_by first second p q = picked_shut mid found begun ∙ (ap (λ w. shuts w ++ shuts (due_why (gone_on (closed (handled (answered mid found))) begun))) p ∙ ap (λ w. shuts first ++ shuts w) q)
+  pick_by first second p q = picked_shut mid found begun ∙ (ap (λ w. shuts w ++ shuts (due_why (gone_on d begun))) p ∙ ap (λ w. shuts first ++ shuts w) q)
 
-  pick_first : (why : Why) → due_why (handled (answered mid found)) ≡ Some why → picked (is_shut 0) (acts_of mid found begun) ≡ Shut 0 why ∷ []
-  pick_first why p = pick_by (Some why) None p (second_none (closed (handled (answered mid found))) begun (shut_some (handled (answered mid found)) why p))
+  pick_first : (why : Why) → due_why h ≡ Some why → picked (is_shut 0) (acts_of mid found begun) ≡ Shut 0 why ∷ []
+  pick_first why p = pick_by (Some why) None p (second_none d begun (shut_some h why p))
 
   once_shut : shut T 0 ≡ true → picked (is_shut 0) (acts_of mid found begun) ≡ []
   once_shut e =
-      let h = handled (answered mid found) in
       let s : h.shut ≡ true = (handled_answered mid found).shut ∙ (shut_mid ∙ e) in
       pick_by None None (due_none h s) (second_none (closed h) begun (ap (λ (c : Core). c.shut) (closed-shut h s) ∙ s))
 
-  done_is : mid.shut ≡ false → (acted mid found begun).lost ≡ false → stands_whole site (after_step T ev (acts_of mid found begun)) 0 ≡ is_some_text (due_answer mid)
+  done_is : mid.shut ≡ false → last.lost ≡ false → stands_whole site U 0 ≡ is_some_text (due_answer mid)
   done_is s l =
-      whole_is site (after_step T ev (acts_of mid found begun)) (rep.answered (n.lost ∙ rw l refl))
+      whole_is site U (rep.answered (n.lost ∙ rw l refl))
       ∙ (ap (λ t. nat_lt 0 (length t)) (wrote s l) ∙ due_some mid.child.begun mid.child.outcome (asks mid) mid.child.output)
 
-  why_is : mid.shut ≡ false → (acted mid found begun).lost ≡ false →
-      why_due site (after_step T ev (acts_of mid found begun)) 0 ≡ (if mid.stopped then Some Stopped else (if is_some_text (due_answer mid) then Some Done else None))
+  why_is : mid.shut ≡ false → last.lost ≡ false →
+      why_due site U 0 ≡ (if mid.stopped then Some Stopped else (if is_some_text (due_answer mid) then Some Done else None))
   why_is s l =
-      ap (λ v. if v then Some Stopped else (if stands_whole site (after_step T ev (acts_of mid found begun)) 0 then Some Done else None)) stopped_end
+      ap (λ v. if v then Some Stopped else (if stands_whole site U 0 then Some Done else None)) stopped_end
       ∙ ap (λ v. if mid.stopped then Some Stopped else (if v then Some Done else None)) (done_is s l)
 
-  why_h : mid.shut ≡ false → (l r : Bool) → (handled (answered mid found)).lost ≡ l → (handled (answered mid found)).answered ≡ r →
-      due_why (handled (answered mid found)) ≡ why_of false l mid.stopped r
+  why_h : mid.shut ≡ false → (l r : Bool) → h.lost ≡ l → h.answered ≡ r →
+      due_why h ≡ why_of false l mid.stopped r
   why_h s l r p q =
-      let h = handled (answered mid found) in
       ap (λ v. why_of v h.lost (is_over h && is_some h.peer) h.answered) ((handled_answered mid found).shut ∙ s)
       ∙ (ap (λ v. why_of false v (is_over h && is_some h.peer) h.answered) p ∙ (ap (λ v. why_of false l v h.answered) over_is ∙ ap (why_of false l mid.stopped) q))
 
   no_reason_yet : mid.stopped ≡ false → is_some_text (due_answer mid) ≡ false → (if mid.stopped then Some Stopped else (if is_some_text (due_answer mid) then Some Done else None)) ≡ None
   no_reason_yet o r = ap (λ v. if v then Some Stopped else (if is_some_text (due_answer mid) then Some Done else None)) o ∙ ap (λ v. if v then Some Done else None) r
 
-  same_end : (why : Why) → due_why (handled (answered mid found)) ≡ Some why → (acted mid found begun).lost ≡ (handled (answered mid found)).lost
+  same_end : (why : Why) → due_why h ≡ Some why → last.lost ≡ h.lost
   unfolding acted
   same_end why p =
-      let d = closed (handled (answered mid found)) in
-      let s : d.shut ≡ true = shut_some (handled (answered mid found)) why p in
-      ap (λ (c : Core). (closed c).lost) (gone-same d begun s) ∙ (ap (λ (c : Core). c.lost) (closed-shut d s) ∙ (lost_closed (handled (answered mid found)) (due_why (handled (answered mid found)))).0)
+      let s : d.shut ≡ true = shut_some h why p in
+      ap (λ (c : Core). (closed c).lost) (gone-same d begun s) ∙ (ap (λ (c : Core). c.lost) (closed-shut d s) ∙ (lost_closed h (due_why h)).0)
 
-  open_last : due_why (handled (answered mid found)) ≡ None → (w : Option Why) → due_why (gone_on (handled (answered mid found)) begun) ≡ w → w ≡ None →
-      (acted mid found begun).lost ≡ (gone_on (handled (answered mid found)) begun).lost
+  open_last : due_why h ≡ None → (w : Option Why) → due_why (gone_on h begun) ≡ w → w ≡ None →
+      last.lost ≡ (gone_on h begun).lost
   unfolding acted
   open_last p w q e =
-      let h = handled (answered mid found) in
       let c : closed h ≡ h = ap (closed_by h) p in
       ap (λ (d : Core). (closed (gone_on d begun)).lost) c ∙ ap (λ w. (closed_by (gone_on h begun) w).lost) (q ∙ e)
 
   first_shut : shut T 0 ≡ false →
       (picked (is_shut 0) (acts_of mid found begun) ≡ Shut 0 NoMemory ∷ [])
-      ⊎ (picked (is_shut 0) (acts_of mid found begun) ≡ shut_for 0 (why_due site (after_step T ev (acts_of mid found begun)) 0))
-  first_shut e = by_lost (handled (answered mid found)).lost refl
+      ⊎ (picked (is_shut 0) (acts_of mid found begun) ≡ shut_for 0 (why_due site U 0))
+  first_shut e = by_lost h.lost refl
     where
       s : mid.shut ≡ false
       s = shut_mid ∙ e
@@ -405,23 +413,22 @@ module _ (site : Site) (mid : Core) (T : List Item) (ev : Event) (found begun : 
       goal_of : Type 0
       goal_of =
           (picked (is_shut 0) (acts_of mid found begun) ≡ Shut 0 NoMemory ∷ [])
-          ⊎ (picked (is_shut 0) (acts_of mid found begun) ≡ shut_for 0 (why_due site (after_step T ev (acts_of mid found begun)) 0))
+          ⊎ (picked (is_shut 0) (acts_of mid found begun) ≡ shut_for 0 (why_due site U 0))
 
-      answered_h : (handled (answered mid found)).lost ≡ false → (handled (answered mid found)).answered ≡ is_some_text (due_answer mid)
+      answered_h : h.lost ≡ false → h.answered ≡ is_some_text (due_answer mid)
       answered_h l =
           (handled_answered mid found).answered s (lost_h l) ∙ (ap (λ v. is_some_text (due_answer mid) || v) (un s) ∙ or-false (is_some_text (due_answer mid)))
         where
-          lost_h : (handled (answered mid found)).lost ≡ false → (handled (answered mid found)).lost ≡ false
+          lost_h : h.lost ≡ false → h.lost ≡ false
           lost_h l = l
 
-      for_why : (why : Why) → due_why (handled (answered mid found)) ≡ Some why → (handled (answered mid found)).lost ≡ false →
+      for_why : (why : Why) → due_why h ≡ Some why → h.lost ≡ false →
           (if mid.stopped then Some Stopped else (if is_some_text (due_answer mid) then Some Done else None)) ≡ Some why → goal_of
       for_why why p l q = inr (pick_first why p ∙ ap (shut_for 0) (sym (why_is s (same_end why p ∙ l) ∙ q)))
 
-      by_start : (l : Bool) → (gone_on (handled (answered mid found)) begun).lost ≡ l → due_why (handled (answered mid found)) ≡ None → (handled (answered mid found)).lost ≡ false →
+      by_start : (l : Bool) → (gone_on h begun).lost ≡ l → due_why h ≡ None → h.lost ≡ false →
           mid.stopped ≡ false → is_some_text (due_answer mid) ≡ false → goal_of
       by_start l q p m o r =
-          let h = handled (answered mid found) in
           let c : closed h ≡ h = ap (closed_by h) p in
           let hs : h.shut ≡ false = (handled_answered mid found).shut ∙ s in
           let w : due_why (gone_on h begun) ≡ (if l then Some NoMemory else None) =
@@ -431,20 +438,20 @@ module _ (site : Site) (mid : Core) (T : List Item) (ev : Event) (found begun : 
           by_l l pick w q p o r
         where
           by_l : (l : Bool) → picked (is_shut 0) (acts_of mid found begun) ≡ shuts (if l then Some NoMemory else None) →
-              due_why (gone_on (handled (answered mid found)) begun) ≡ (if l then Some NoMemory else None) → (gone_on (handled (answered mid found)) begun).lost ≡ l →
-              due_why (handled (answered mid found)) ≡ None → mid.stopped ≡ false → is_some_text (due_answer mid) ≡ false → goal_of
+              due_why (gone_on h begun) ≡ (if l then Some NoMemory else None) → (gone_on h begun).lost ≡ l →
+              due_why h ≡ None → mid.stopped ≡ false → is_some_text (due_answer mid) ≡ false → goal_of
           by_l true pick w q p o r = inl pick
           by_l false pick w q p o r =
               inr (pick ∙ ap (shut_for 0) (sym (why_is s (open_last p None w refl ∙ q) ∙ no_reason_yet o r)))
 
-      by_answer : (r o : Bool) → is_some_text (due_answer mid) ≡ r → mid.stopped ≡ o → (handled (answered mid found)).lost ≡ false → goal_of
+      by_answer : (r o : Bool) → is_some_text (due_answer mid) ≡ r → mid.stopped ≡ o → h.lost ≡ false → goal_of
       by_answer r true q p m = for_why Stopped (why_h s false r m (answered_h m ∙ q) ∙ ap (λ v. why_of false false v r) p) m (rw p refl)
       by_answer true false q p m = for_why Done (why_h s false true m (answered_h m ∙ q) ∙ ap (λ v. why_of false false v true) p) m (rw (p, q) refl)
       by_answer false false q p m =
-          by_start (gone_on (handled (answered mid found)) begun).lost refl (why_h s false false m (answered_h m ∙ q) ∙ ap (λ v. why_of false false v false) p) m p q
+          by_start (gone_on h begun).lost refl (why_h s false false m (answered_h m ∙ q) ∙ ap (λ v. why_of false false v false) p) m p q
 
-      by_lost : (l : Bool) → (handled (answered mid found)).lost ≡ l → goal_of
-      by_lost true m = inl (pick_first NoMemory (why_h s true (handled (answered mid found)).answered m refl))
+      by_lost : (l : Bool) → h.lost ≡ l → goal_of
+      by_lost true m = inl (pick_first NoMemory (why_h s true h.answered m refl))
       by_lost false m = by_answer (is_some_text (due_answer mid)) mid.stopped refl refl m
 
   -- ---- memory
@@ -453,9 +460,9 @@ module _ (site : Site) (mid : Core) (T : List Item) (ev : Event) (found begun : 
   memory_none t =
       any_picked (is_shut_for_memory 0) (is_shut 0) (acts_of mid found begun) not_shut_act
       ∙ (ap (λ l. list_any (λ act. is_shut_for_memory 0 (Out act)) l) (picked_shut mid found begun)
-      ∙ (any_append_acts (λ act. is_shut_for_memory 0 (Out act)) (shuts (due_why (handled (answered mid found)))) (shuts (due_why (gone_on (closed (handled (answered mid found))) begun)))
-      ∙ (ap (λ v. v || list_any (λ act. is_shut_for_memory 0 (Out act)) (shuts (due_why (gone_on (closed (handled (answered mid found))) begun)))) (memory_shuts (due_why (handled (answered mid found))))
-      ∙ (ap (λ v. is_memory (due_why (handled (answered mid found))) || v) (memory_shuts (due_why (gone_on (closed (handled (answered mid found))) begun)))
+      ∙ (any_append_acts (λ act. is_shut_for_memory 0 (Out act)) (shuts (due_why h)) (shuts (due_why (gone_on d begun)))
+      ∙ (ap (λ v. v || list_any (λ act. is_shut_for_memory 0 (Out act)) (shuts (due_why (gone_on d begun)))) (memory_shuts (due_why h))
+      ∙ (ap (λ v. is_memory (due_why h) || v) (memory_shuts (due_why (gone_on d begun)))
       ∙ by_shut mid.shut refl))))
     where
       or_nones : (a b : Bool) → a ≡ false → b ≡ false → (a || b) ≡ false
@@ -470,14 +477,12 @@ module _ (site : Site) (mid : Core) (T : List Item) (ev : Event) (found begun : 
       found_true true g = refl
       found_true false g = absurd (g refl)
 
-      by_shut : (s : Bool) → mid.shut ≡ s → (is_memory (due_why (handled (answered mid found))) || is_memory (due_why (gone_on (closed (handled (answered mid found))) begun))) ≡ false
+      by_shut : (s : Bool) → mid.shut ≡ s → (is_memory (due_why h) || is_memory (due_why (gone_on d begun))) ≡ false
       by_shut true e =
-          let h = handled (answered mid found) in
           let s : h.shut ≡ true = (handled_answered mid found).shut ∙ e in
           or_nones (is_memory (due_why h)) (is_memory (due_why (gone_on (closed h) begun))) (ap is_memory (due_none h s))
           (ap is_memory (second_none (closed h) begun (ap (λ (c : Core). c.shut) (closed-shut h s) ∙ s)))
       by_shut false e =
-          let h = handled (answered mid found) in
           let q = quiet t e in
           let no_found : (found ≡ false → ⊥) = λ z. let d = (and_parts (is_open mid) (is_some_text (due_answer mid)) (f z)).1 in let d' = q.none_due in absurd (cc) in
           let l : h.lost ≡ false = found_true found no_found ∙ (handled_lost mid ∙ q.lost) in
@@ -491,11 +496,11 @@ module _ (site : Site) (mid : Core) (T : List Item) (ev : Event) (found begun : 
           closed_same core (Some NoMemory) = (refl, refl)
           closed_same core (Some _) = (refl, refl)
 
-          request_d : (closed (handled (answered mid found))).request ≡ mid.request
-          request_d = (closed_same (handled (answered mid found)) (due_why (handled (answered mid found)))).0 ∙ (handled_answered mid found).request
+          request_d : d.request ≡ mid.request
+          request_d = (closed_same h (due_why h)).0 ∙ (handled_answered mid found).request
 
-          begun_d : (closed (handled (answered mid found))).child.begun ≡ mid.child.begun
-          begun_d = (closed_same (handled (answered mid found)) (due_why (handled (answered mid found)))).1 ∙ (handled_answered mid found).begun
+          begun_d : d.child.begun ≡ mid.child.begun
+          begun_d = (closed_same h (due_why h)).1 ∙ (handled_answered mid found).begun
 
           no_script : (d : Core) → is_start_due d ≡ true → is_unfinished (asks d) ≡ is_unfinished (asks mid) → d.child.begun ≡ mid.child.begun →
               (is_unfinished (asks mid) || mid.child.begun) ≡ true → ⊥
@@ -509,26 +514,24 @@ module _ (site : Site) (mid : Core) (T : List Item) (ev : Event) (found begun : 
 
   -- ---- what the connection has in the end
 
-  open_shut : is_open_at (after_step T ev (acts_of mid found begun)) 0 ≡ true → (acted mid found begun).shut ≡ false
+  open_shut : is_open_at U 0 ≡ true → last.shut ≡ false
   open_shut e =
-      n.shut ∙ not-true (shut (after_step T ev (acts_of mid found begun)) 0)
-      (and_parts (is_known (after_step T ev (acts_of mid found begun)) 0) (not (shut (after_step T ev (acts_of mid found begun)) 0)) e).1
+      n.shut ∙ not-true (shut U 0)
+      (and_parts (is_known U 0) (not (shut U 0)) e).1
 
-  unlost_end : (acted mid found begun).shut ≡ false → (acted mid found begun).lost ≡ false
-  unlost_end e = closed_lost (acted mid found begun).shut (acted mid found begun).lost (is_over (acted mid found begun) && is_some (acted mid found begun).peer) (acted mid found begun).answered cl e
+  unlost_end : last.shut ≡ false → last.lost ≡ false
+  unlost_end e = closed_lost last.shut last.lost (is_over last && is_some last.peer) last.answered cl e
 
-  asks_end : (acted mid found begun).shut ≡ false → asked site (client_in (after_step T ev (acts_of mid found begun)) 0) ≡ asks (acted mid found begun)
+  asks_end : last.shut ≡ false → asked site (client_in U 0) ≡ asks last
   asks_end e =
       ap (asked site) (sym (n.heard e (unlost_end e)))
-      ∙ ap (λ x. asked x (acted mid found begun).request.bytes) (sym (ap (λ r. r.site) (keeps-acted mid found begun).request ∙ own))
+      ∙ ap (λ x. asked x last.request.bytes) (sym (ap (λ r. r.site) (keeps-acted mid found begun).request ∙ own))
 
-  has_child : (acted mid found begun).child.begun ≡ true → has_begun (after_step T ev (acts_of mid found begun)) 0 ≡ true
+  has_child : last.child.begun ≡ true → has_begun U 0 ≡ true
   has_child e = rw (n.child.exchange, e) refl
 
-  begins : must_begin site (after_step T ev (acts_of mid found begun)) 0 ≡ true → has_begun (after_step T ev (acts_of mid found begun)) 0 ≡ true
+  begins : must_begin site U 0 ≡ true → has_begun U 0 ≡ true
   begins m =
-      let U = after_step T ev (acts_of mid found begun) in
-      let last = acted mid found begun in
       let p = and_parts (is_open_at U 0 && not (is_pending_high U 0)) (not (is_unfinished (asked site (client_in U 0)))) m in
       let e = open_shut (and_parts (is_open_at U 0) (not (is_pending_high U 0)) p.0).0 in
       let q = idle_parts last.shut (is_some_text (due_answer last)) (is_unfinished (asks last)) last.child.begun id e in
@@ -539,13 +542,12 @@ module _ (site : Site) (mid : Core) (T : List Item) (ev : Event) (found begun : 
       second true b e f = absurd (cc)
       second false b e f = e
 
-  answers : is_open_at (after_step T ev (acts_of mid found begun)) 0 ≡ true → client_out (after_step T ev (acts_of mid found begun)) 0 ≡ spelling (answer site (after_step T ev (acts_of mid found begun)) 0)
+  answers : is_open_at U 0 ≡ true → client_out U 0 ≡ spelling (answer site U 0)
   answers o = rep.answered (n.lost ∙ rw (unlost_end (open_shut o)) refl)
 
-  stops : stopped (after_step T ev (acts_of mid found begun)) ≡ true → shut (after_step T ev (acts_of mid found begun)) 0 ≡ true
+  stops : stopped U ≡ true → shut U 0 ≡ true
   stops t =
-      let last = acted mid found begun in
-      let p : is_some last.peer ≡ true = known_peer last (after_step T ev (acts_of mid found begun)) n.peer known in
+      let p : is_some last.peer ≡ true = known_peer last U n.peer known in
       let o : (is_over last && is_some last.peer) ≡ true = rw (n.stopped, t, p) refl in
       sym n.shut ∙ over_shut last.shut last.lost (is_over last && is_some last.peer) last.answered cl o
     where
@@ -554,15 +556,13 @@ module _ (site : Site) (mid : Core) (T : List Item) (ev : Event) (found begun : 
 
   -- ---- WantClient
 
-  none_eof : list_any (is_client_eof 0) (after_step T ev (acts_of mid found begun)) ≡ false
-  none_eof = none_built (is_client_eof 0) (after_step T ev (acts_of mid found begun)) not_eof b.kinds
+  none_eof : list_any (is_client_eof 0) U ≡ false
+  none_eof = none_built (is_client_eof 0) U not_eof b.kinds
 
   -- what is demanded of an open connection, by its fields in the end
-  hear_open : (acted mid found begun).shut ≡ false →
-      must_hear site (after_step T ev (acts_of mid found begun)) 0 ≡ (not (acted mid found begun).child.begun && is_unfinished (asks (acted mid found begun)))
+  hear_open : last.shut ≡ false →
+      must_hear site U 0 ≡ (not last.child.begun && is_unfinished (asks last))
   hear_open e =
-      let U = after_step T ev (acts_of mid found begun) in
-      let last = acted mid found begun in
       let o : is_open_at U 0 ≡ true = rw (known, ← n.shut, e) refl in
       let written : client_out U 0 ≡ [] = n.written (unanswered_yet last cl e) in
       let h : has_begun U 0 ≡ last.child.begun = ap (λ l. nat_lt 0 (length l) || nat_lt 0 (length (client_out U 0))) n.child.exchange
@@ -582,50 +582,44 @@ module _ (site : Site) (mid : Core) (T : List Item) (ev : Event) (found begun : 
       all_true true false = refl
       all_true false b = refl
 
-  hear_shut : (acted mid found begun).shut ≡ true → must_hear site (after_step T ev (acts_of mid found begun)) 0 ≡ false
+  hear_shut : last.shut ≡ true → must_hear site U 0 ≡ false
   hear_shut e =
-      let U = after_step T ev (acts_of mid found begun) in
       let o : is_open_at U 0 ≡ false = rw (← n.shut, e) (and-false (is_known U 0)) in
       ap (λ v. v && not (is_pending_high U 0) && not (has_begun U 0) && is_unfinished (asked site (client_in U 0)) && not (list_any (is_client_eof 0) U)) o
 
-  shut_waits : (acted mid found begun).shut ≡ true →
-      (is_waiting (closed (handled (answered mid found))) && (is_unfinished (asks (closed (handled (answered mid found)))) && not (closed (handled (answered mid found))).asked)) ≡ false
+  shut_waits : last.shut ≡ true →
+      (is_waiting d && (is_unfinished (asks d) && not d.asked)) ≡ false
   unfolding acted
   shut_waits e =
-      let d = closed (handled (answered mid found)) in
       no_wait (is_waiting d) (is_unfinished (asks d)) (not d.asked)
-      (λ w m. let g = stays_open d begun (closed-closed (handled (answered mid found))) w m in absurd (cc))
+      (λ w m. let g : true ≡ false = sym e ∙ stays_open d begun (closed-closed h) w m in absurd (cc))
 
-  waiting_h : (acted mid found begun).shut ≡ false → is_waiting (handled (answered mid found)) ≡ not mid.child.begun
+  waiting_h : last.shut ≡ false → is_waiting h ≡ not mid.child.begun
   waiting_h e =
       let o = open_end mid found begun e in
       let a = handled_answered mid found in
-      let h = handled (answered mid found) in
       ap (λ v. not (v || not (is_some h.peer) || h.child.begun)) (a.shut ∙ o.shut)
       ∙ (ap (λ p. not (false || not (is_some p) || h.child.begun)) a.peer
       ∙ (ap (λ v. not (false || not v || h.child.begun)) peer_mid ∙ ap (λ v. not (false || not true || v)) a.begun))
 
-  asks_h : asks (handled (answered mid found)) ≡ asks mid
+  asks_h : asks h ≡ asks mid
   asks_h = ap (λ r. asked r.site r.bytes) (handled_answered mid found).request
 
-  asks_last : asks (acted mid found begun) ≡ asks mid
+  asks_last : asks last ≡ asks mid
   asks_last = ap (λ r. asked r.site r.bytes) (keeps-acted mid found begun).request
 
-  begun_last : (acted mid found begun).shut ≡ false → is_unfinished (asks mid) ≡ true → (acted mid found begun).child.begun ≡ mid.child.begun
+  begun_last : last.shut ≡ false → is_unfinished (asks mid) ≡ true → last.child.begun ≡ mid.child.begun
   begun_last e m =
       let o = open_end mid found begun e in
-      let h = handled (answered mid found) in
       ap (λ (c : Core). c.child.begun) o.last ∙ (begun_stays (is_waiting h) h begun (ap is_unfinished asks_h ∙ m) ∙ (handled_answered mid found).begun)
 
-  want_open : (acted mid found begun).shut ≡ false →
-      (must_hear site (after_step T ev (acts_of mid found begun)) 0 && not (client_wanted (T ++ In ev ∷ []) 0))
-      ≡ (is_waiting (closed (handled (answered mid found))) && (is_unfinished (asks (closed (handled (answered mid found)))) && not (closed (handled (answered mid found))).asked))
+  want_open : last.shut ≡ false →
+      (must_hear site U 0 && not (client_wanted V 0))
+      ≡ (is_waiting d && (is_unfinished (asks d) && not d.asked))
   want_open e =
       let o = open_end mid found begun e in
-      let h = handled (answered mid found) in
-      let last = acted mid found begun in
-      ap (λ v. v && not (client_wanted (T ++ In ev ∷ []) 0)) (hear_open e)
-      ∙ (ap (λ v. (not last.child.begun && is_unfinished (asks last)) && not v) (wanted mid (T ++ In ev ∷ []) k)
+      ap (λ v. v && not (client_wanted V 0)) (hear_open e)
+      ∙ (ap (λ v. (not last.child.begun && is_unfinished (asks last)) && not v) (wanted mid V k)
       ∙ (ap (λ r. (not last.child.begun && is_unfinished r) && not mid.asked) asks_last
       ∙ (hear_same mid.child.begun last.child.begun (is_unfinished (asks mid)) mid.asked (begun_last e)
       ∙ (ap (λ v. v && (is_unfinished (asks mid) && not mid.asked)) (sym (waiting_h e))
@@ -633,35 +627,33 @@ module _ (site : Site) (mid : Core) (T : List Item) (ev : Event) (found begun : 
       ∙ (ap (λ v. is_waiting h && (is_unfinished (asks h) && not v)) (sym (handled_answered mid found).asked)
       ∙ ap (λ (d : Core). is_waiting d && (is_unfinished (asks d) && not d.asked)) (sym o.before)))))))
 
-  want_equal : (must_hear site (after_step T ev (acts_of mid found begun)) 0 && not (client_wanted (T ++ In ev ∷ []) 0))
-      ≡ (is_waiting (closed (handled (answered mid found))) && (is_unfinished (asks (closed (handled (answered mid found)))) && not (closed (handled (answered mid found))).asked))
-  want_equal = by_shut (acted mid found begun).shut refl
+  want_equal : (must_hear site U 0 && not (client_wanted V 0))
+      ≡ (is_waiting d && (is_unfinished (asks d) && not d.asked))
+  want_equal = by_shut last.shut refl
     where
-      by_shut : (s : Bool) → (acted mid found begun).shut ≡ s →
-          (must_hear site (after_step T ev (acts_of mid found begun)) 0 && not (client_wanted (T ++ In ev ∷ []) 0))
-          ≡ (is_waiting (closed (handled (answered mid found))) && (is_unfinished (asks (closed (handled (answered mid found)))) && not (closed (handled (answered mid found))).asked))
-      by_shut true e = ap (λ v. v && not (client_wanted (T ++ In ev ∷ []) 0)) (hear_shut e) ∙ sym (shut_waits e)
+      by_shut : (s : Bool) → last.shut ≡ s →
+          (must_hear site U 0 && not (client_wanted V 0))
+          ≡ (is_waiting d && (is_unfinished (asks d) && not d.asked))
+      by_shut true e = ap (λ v. v && not (client_wanted V 0)) (hear_shut e) ∙ sym (shut_waits e)
       by_shut false e = want_open e
 
-  hears : must_hear site (after_step T ev (acts_of mid found begun)) 0 ≡ true → client_wanted (after_step T ev (acts_of mid found begun)) 0 ≡ true
-  hears m = by_shut (acted mid found begun).shut refl
+  hears : must_hear site U 0 ≡ true → client_wanted U 0 ≡ true
+  hears m = by_shut last.shut refl
     where
-      by_shut : (s : Bool) → (acted mid found begun).shut ≡ s → client_wanted (after_step T ev (acts_of mid found begun)) 0 ≡ true
+      by_shut : (s : Bool) → last.shut ≡ s → client_wanted U 0 ≡ true
       by_shut true e = absurd (let g = hear_shut e in cc)
       by_shut false e =
           let o = open_end mid found begun e in
-          let last = acted mid found begun in
-          let h = handled (answered mid found) in
           let p = and_parts (not last.child.begun) (is_unfinished (asks last)) (sym (hear_open e) ∙ m) in
           let u' : is_unfinished (asks mid) ≡ true = sym (ap is_unfinished asks_last) ∙ p.1 in
           let w : is_waiting h ≡ true = waiting_h e ∙ (ap (λ v. not v) (sym (begun_last e u')) ∙ p.0) in
-          wanted last (after_step T ev (acts_of mid found begun)) n
+          wanted last U n
           ∙ (ap (λ (c : Core). c.asked) o.last ∙ ap (λ (c : Core). c.asked) (waits_more h begun w (ap is_unfinished asks_h ∙ u')))
 
   pub connection_good : ConnectionGood site (step_of T ev (acts_of mid found begun)) 0
   connection_good = record {
     replies = rep;
-    talks = record { never = no_upgrade (after_step T ev (acts_of mid found begun)) 0 n.first };
+    talks = record { never = no_upgrade U 0 n.first };
     shuts = record { once = once_shut; first = first_shut };
     wants = record { ask = picked_client mid found begun ∙ ap (λ v. when v (WantClient 0)) (sym want_equal) };
     begins = record { begun = begins };

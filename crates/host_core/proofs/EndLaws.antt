@@ -31,8 +31,9 @@ use Rattle.host_core.proofs.KnowsLaws.{eof_new}
 use Rattle.host_core.proofs.ConnectionLaws.{second_none, known_peer, handled_answered}
 use Rattle.host_core.proofs.FormLaws.{going_none}
 use Rattle.host_core.proofs.IdleLaws.{no_reason, no_why_parts}
-use Rattle.host_core.proofs.HeardLaws.{notes_shut, notes_lost, asked_parts, client_asked, idle_parts}
-use Rattle.host_core.proofs.SoundLaws.{keeps-answered, keeps-acted, given-acted, child-answered}
+use Rattle.host_core.proofs.HeardLaws.{Sound, notes_shut, notes_lost, asked_parts, client_asked, idle_parts}
+use Rattle.host_core.proofs.SoundLaws.{keeps-answered, keeps-acted, given-acted, child-answered, fed-acted}
+use Rattle.host_core.proofs.ChildLaws.{started_of}
 use Rattle.std.proofs.Math.Bool.{and-false, or-true}
 
 -- ---- nothing is due any more
@@ -244,9 +245,9 @@ ending-acts mid found begun d al u =
     (ending-append (answering mid found) (handling a) e3 (ending-handling a o.0))
     (ending_shuts (due_why h) (λ why e. ends_why h why al o.1 e))) e1) e2
 
-pub ends : (mid : Core) (T : List Item) (ev : Event) (found begun : Bool) → is_answer_due mid ≡ false → alone (handled (answered mid found)) ≡ true → mid.unbuilt ≡ true →
+pub ends : (mid : Core) (T : List Item) (ev : Event) (found begun : Bool) → Sound mid → is_answer_due mid ≡ false → alone (handled (answered mid found)) ≡ true → mid.unbuilt ≡ true →
     Knows (acted mid found begun) (after_step T ev (acts_of mid found begun)) → is_closed (acted mid found begun) ≡ true → Ends (step_of T ev (acts_of mid found begun))
-ends mid T ev found begun d al u n cl =
+ends mid T ev found begun x d al u n cl =
     let U = after_step T ev (acts_of mid found begun) in
     let last = acted mid found begun in
     let k = keeps-acted mid found begun in
@@ -263,6 +264,17 @@ ends mid T ev found begun d al u n cl =
           let kd : last.child.killed ≡ ((mid.child.started && not mid.child.exited && not mid.child.killed) || mid.child.killed) =
           (given-acted mid found begun).killed ∙ (ap (λ c. is_kill_due (answered mid found) || c.killed) (child-answered mid found) ∙ ap (λ v. v || mid.child.killed) e) in
           rw (← n.child.killed, kd, ← n.child.exited, k.exited) (gone mid.child.started mid.child.exited mid.child.killed (sym k.started ∙ (n.child.started ∙ st)));
+      settled_then = λ ex.
+          let e : is_release_due (answered mid found) ≡ (mid.child.exited && not mid.child.output_ended) =
+          ap (λ c. c.exited && ((answered mid found).lost || is_over (answered mid found) || is_dropped c.outcome) && not c.output_ended) (child-answered mid found)
+          ∙ (ap (λ v. mid.child.exited && ((answered mid found).lost || v || is_dropped mid.child.outcome) && not mid.child.output_ended) (over_handled mid found u).0
+          ∙ release_over mid.child.exited (answered mid found).lost (is_dropped mid.child.outcome) (not mid.child.output_ended)) in
+          let o : last.child.output_ended ≡ ((mid.child.exited && not mid.child.output_ended) || mid.child.output_ended) =
+          (given-acted mid found begun).output_ended ∙ (ap (λ c. is_release_due (answered mid found) || c.output_ended) (child-answered mid found) ∙ ap (λ v. v || mid.child.output_ended) e) in
+          let me : mid.child.exited ≡ true = sym k.exited ∙ (n.child.exited ∙ ex) in
+          let ms : mid.child.started ≡ true = started_of mid.child.begun mid.child.started mid.child.refused mid.child.exited x.born me in
+          let i : last.child.input_ended ≡ true = by_fed last.child.started last.child.input_ended (fed-acted mid found begun) (k.started ∙ ms) in
+          rw (← n.child.input_ended, i, ← n.child.output_ended, o, me) (either mid.child.output_ended);
     }
   where
     by_closed : (s l t u p r : Bool) → (s || not (l || (t || u) && p || r)) ≡ true → u ≡ true → p ≡ true → s ≡ true
@@ -272,6 +284,18 @@ ends mid T ev found begun d al u n cl =
     kill_over : (st l d x k : Bool) → (st && (l || true || d) && x && k) ≡ (st && x && k)
     kill_over st true d x k = grind (arith, common_steps)
     kill_over st false d x k = grind (arith, common_steps)
+
+    release_over : (x l d o : Bool) → (x && (l || true || d) && o) ≡ (x && o)
+    release_over x true d o = grind (arith, common_steps)
+    release_over x false d o = grind (arith, common_steps)
+
+    by_fed : (s i : Bool) → (not s || i) ≡ true → s ≡ true → i ≡ true
+    by_fed true i h e = h
+    by_fed false i h e = absurd (cc)
+
+    either : (o : Bool) → (not o || o) ≡ true
+    either true = refl
+    either false = refl
 
     gone : (st x k : Bool) → st ≡ true → (((st && not x && not k) || k) || x) ≡ true
     gone st x k e = grind (arith, common_steps)

@@ -23,7 +23,7 @@ use Rattle.host_trace.specs.Account.{is_refusal}
 use Rattle.host_core.specs.Connections.{takes_none}
 use Rattle.host_core.specs.Knows.{Knows, Admits, Once, is_first, is_kept, with_peer, passes, StartsNone, Notes, noted, one_if, outcome_by, decided, decides, is_unbuilt, asked_by, more_unless}
 use Rattle.host_core.specs.Due.{asks, is_over, is_undecided, is_dropped, is_some_text, due_answer, answer_by}
-use Rattle.host_core.specs.Stands.{Stands, calm, calm_by, is_output, ended, is_closed, apt, apt_by, born, born_by, fed, fed_or_running, fresh, doomed, alone, alone_by, idle}
+use Rattle.host_core.specs.Stands.{Stands, calm, calm_by, is_output, ended, is_closed, apt, apt_by, born, born_by, fed, fresh, doomed, alone, alone_by, idle}
 use Rattle.host_core.proofs.KnowsLaws.{Knows-noted, peel}
 use Rattle.host_core.proofs.OnlyLaws.{no_want, no_upgrade, no_start, not_started, not_written, not_fed}
 use Rattle.host_core.proofs.ActsLaws.{Knows-losing_all}
@@ -358,6 +358,10 @@ born_noted : (core : Core) (ev : Event) → Once core (In ev) → born core ≡ 
 born_noted core ev o h =
     born_event core.child.begun (is_started 0 (In ev)) core.child.started (is_refusal 0 (In ev)) core.child.refused (is_exited 0 (In ev)) core.child.exited
     (λ e. (o.answers (start_answers ev e)).0) (λ e. (o.answers (refusal_answers ev e)).0) (λ e. (o.exits e).0) h
+
+-- the input of a child that was started is ended, or the child has not exited yet
+abbrev pub fed_or_running : Core → Bool
+fed_or_running core = not core.child.started || core.child.input_ended || not core.child.exited
 
 fed_event : (b s S R x X i I : Bool) → (s ≡ true → (S || R) ≡ false) → (x ≡ true → S ≡ true) → born_by b S R X ≡ true → (not S || I) ≡ true →
     (not (s || S) || (i || I) || not (x || X)) ≡ true

@@ -37,7 +37,7 @@ use Rattle.host_core.specs.Replies.{Replies}
 use Rattle.host_core.specs.Launches.{Launches}
 use Rattle.host_core.specs.Demands.{is_child_of}
 use Rattle.host_core.specs.Ends.{Ends}
-use Rattle.host_core.specs.Good.{StepGood, BuiltGood, ConnectionGood, ChildGood, Good}
+use Rattle.host_core.specs.Good.{StepGood, begins_with_event, BuiltGood, ConnectionGood, ChildGood, Good}
 use Rattle.host_core.specs.Knows.{Knows, Notes, noted, one_if, outcome_of, outcome_by, decided, decides, is_unbuilt}
 use Rattle.host_core.specs.Due.{asks, acted, acts_of, is_open, is_answer_due, is_over, is_undecided, closed, closed_by, due_why, handled, gone_on, gone_on_by, is_waiting, answered, is_some_text, is_start_due, due_answer, answer_by, text_by, launch_by, begun_by, is_script}
 use Rattle.host_core.specs.Stands.{Steps, Stands, calm_by, is_output, is_closed, apt, apt_by, alone, idle}
@@ -61,10 +61,16 @@ AllByRecursion-push : {X : Type 0} (P : X → Type 0) (xs : List X) (y : X) → 
 AllByRecursion-push P [] y all here = (here, tt)
 AllByRecursion-push P (x ∷ xs) y all here = (all.0, AllByRecursion-push P xs y all.1 here)
 
+begun-push : (T : List Item) (event : Event) (acts : List Act) → begins_with_event T ≡ true → begins_with_event (after_step T event acts) ≡ true
+begun-push [] event acts e = refl
+begun-push (x ∷ T) event acts e = e
+
 pub Good-push : (site : Site) (T : List Item) (event : Event) (acts : List Act) →
     Good site T → StepGood site (step_of T event acts) → Good site (after_step T event acts)
-Good-push site T event acts good step =
-    rw (steps-append T event acts) (AllByRecursion-push (StepGood site) (steps T) (step_of T event acts) good step)
+Good-push site T event acts good step = record {
+  begun = begun-push T event acts good.begun;
+  steps = rw (steps-append T event acts) (AllByRecursion-push (StepGood site) (steps T) (step_of T event acts) good.steps step);
+}
 
 -- ---- a front of what is built is built
 
@@ -219,20 +225,29 @@ module _ (core mid : Core) (T : List Item) (limit : ℕ) (ev : Event) (found beg
     (k : Knows mid (T ++ In ev ∷ []))
     (n : Knows (acted mid found begun) (after_step T ev (acts_of mid found begun)))
     (b : IsBuilt core.site.now.limits (after_step T ev (acts_of mid found begun))) where
+  abbrev acts : List Act
+  acts = acts_of mid found begun
+
+  abbrev U : List Item
+  U = after_step T ev (acts_of mid found begun)
+
+  abbrev last : Core
+  last = acted mid found begun
+
   built_before : IsBuilt core.site.now.limits T
   built_before = built-front core.site.now.limits T (In ev ∷ map Out (acts_of mid found begun)) b
 
   mid_site : mid.site ≡ core.site
   mid_site = (noted-site core mid (In ev) notes).0
 
-  last_site : (acted mid found begun).site ≡ core.site
+  last_site : last.site ≡ core.site
   last_site = (acted-site mid found begun).0 ∙ mid_site
 
   mid_built : mid.unbuilt ≡ false
   mid_built =
       k.built (rw mid_site (built-front core.site.now.limits (T ++ In ev ∷ []) (map Out (acts_of mid found begun)) (rw (append_assoc T (In ev ∷ []) (map Out (acts_of mid found begun))) b)))
 
-  last_built : (acted mid found begun).unbuilt ≡ false
+  last_built : last.unbuilt ≡ false
   last_built = n.built (rw last_site b)
 
   end_same : core.shut ≡ true → acted mid found begun ≡ handled (noted core (In ev))
@@ -240,17 +255,14 @@ module _ (core mid : Core) (T : List Item) (limit : ℕ) (ev : Event) (found beg
       ap (λ v. acted mid v begun) (given-shut mid found (notes_shut core mid ev notes ∙ c) f).0
       ∙ (acted-shut mid begun (notes_shut core mid ev notes ∙ c) ∙ ap handled (unlost core mid ev notes c))
 
-  out_same : core.shut ≡ true → client_out (after_step T ev (acts_of mid found begun)) 0 ≡ client_out T 0
+  out_same : core.shut ≡ true → client_out U 0 ≡ client_out T 0
   out_same c =
       client_out-step T ev mid found begun
       ∙ (ap (λ l. client_out T 0 ++ l) (given-shut mid found (notes_shut core mid ev notes ∙ c) f).1 ∙ append-nil (client_out T 0))
 
-  whole_shut : core.shut ≡ true → (acted mid found begun).lost ≡ false →
-      client_out (after_step T ev (acts_of mid found begun)) 0 ≡ spelling (answer core.site.now (after_step T ev (acts_of mid found begun)) 0)
+  whole_shut : core.shut ≡ true → last.lost ≡ false →
+      client_out U 0 ≡ spelling (answer core.site.now U 0)
   whole_shut c e =
-      let acts = acts_of mid found begun in
-      let U = after_step T ev acts in
-      let last = acted mid found begun in
       let x = noted core (In ev) in
       let site = core.site.now in
       let same = end_same c in
@@ -280,18 +292,15 @@ module _ (core mid : Core) (T : List Item) (limit : ℕ) (ev : Event) (found beg
   before_open : core.shut ≡ false → client_out T 0 ≡ []
   before_open c = s.knows.written (unanswered_yet core s.closed c)
 
-  wrote_open : core.shut ≡ false → (acted mid found begun).lost ≡ false → client_out (after_step T ev (acts_of mid found begun)) 0 ≡ text_by (due_answer mid)
+  wrote_open : core.shut ≡ false → last.lost ≡ false → client_out U 0 ≡ text_by (due_answer mid)
   wrote_open c e =
-      let w : Went mid (acted mid found begun) found = went mid found begun e in
+      let w : Went mid last found = went mid found begun e in
       let o : is_open mid ≡ true = rw (notes_shut core mid ev notes ∙ c, w.lost) refl in
       client_out-step T ev mid found begun ∙ rw (before_open c) (given-open mid found w.memory o)
 
-  whole_open : core.shut ≡ false → (acted mid found begun).lost ≡ false →
-      client_out (after_step T ev (acts_of mid found begun)) 0 ≡ spelling (answer core.site.now (after_step T ev (acts_of mid found begun)) 0)
+  whole_open : core.shut ≡ false → last.lost ≡ false →
+      client_out U 0 ≡ spelling (answer core.site.now U 0)
   whole_open c e =
-      let acts = acts_of mid found begun in
-      let U = after_step T ev acts in
-      let last = acted mid found begun in
       let site = core.site.now in
       let w : Went mid last found = went mid found begun e in
       let ms : mid.shut ≡ false = notes_shut core mid ev notes ∙ c in
@@ -316,12 +325,12 @@ module _ (core mid : Core) (T : List Item) (limit : ℕ) (ev : Event) (found beg
             ∙ (ap (λ v. spelling (model_by last.child.begun v (asks mid) mid.child.output)) (sym un) ∙ ap spelling (sym aU))))
       ]
 
-  nothing_shut : core.shut ≡ true → (acted mid found begun).lost ≡ true → client_out (after_step T ev (acts_of mid found begun)) 0 ≡ []
+  nothing_shut : core.shut ≡ true → last.lost ≡ true → client_out U 0 ≡ []
   nothing_shut c e =
       let cl : core.lost ≡ true = sym (ap (λ (y : Core). y.lost) (end_same c) ∙ (handled-same (noted core (In ev))).lost) ∙ e in
       out_same c ∙ (s.replies built_before).wanting (s.knows.lost ∙ rw (cl, c) refl)
 
-  nothing_open : core.shut ≡ false → (acted mid found begun).lost ≡ true → client_out (after_step T ev (acts_of mid found begun)) 0 ≡ []
+  nothing_open : core.shut ≡ false → last.lost ≡ true → client_out U 0 ≡ []
   nothing_open c e = client_out-step T ev mid found begun ∙ rw (before_open c) (lost_text mid found begun e)
 
 replies-step : (core mid : Core) (T : List Item) (limit : ℕ) (ev : Event) (found begun : Bool) →
@@ -360,6 +369,12 @@ module _ (core mid : Core) (T : List Item) (limit : ℕ) (ev : Event) (found beg
     (f' : begun ≡ false → is_start_due (closed (handled (answered mid found))) ≡ true)
     (k : Knows mid (T ++ In ev ∷ []))
     (n : Knows (acted mid found begun) (after_step T ev (acts_of mid found begun))) where
+  abbrev trace_end : List Item
+  trace_end = after_step T ev (acts_of mid found begun)
+
+  abbrev core_end : Core
+  core_end = acted mid found begun
+
   sound_mid : Sound mid
   sound_mid = sound-heard core mid T limit ev s fit notes
 
@@ -372,13 +387,13 @@ module _ (core mid : Core) (T : List Item) (limit : ℕ) (ev : Event) (found beg
   own_both : mid.request.site ≡ mid.site.now
   own_both = own_mid ∙ ap (λ x. x.now) (sym (noted-site core mid (In ev) notes).0)
 
-  end_closed : is_closed (acted mid found begun) ≡ true
+  end_closed : is_closed core_end ≡ true
   end_closed = closed-acted mid found begun
 
-  end_idle : idle (acted mid found begun) ≡ true
+  end_idle : idle core_end ≡ true
   end_idle = idle-acted mid found begun f alone_mid sound_mid.fresh own_both
 
-  first_connection : IsBuilt core.site.now.limits (after_step T ev (acts_of mid found begun)) → is_known (after_step T ev (acts_of mid found begun)) 0 ≡ true →
+  first_connection : IsBuilt core.site.now.limits trace_end → is_known trace_end 0 ≡ true →
       ConnectionGood core.site.now (step_of T ev (acts_of mid found begun)) 0
   first_connection b known =
       connection_good core.site.now mid T ev found begun f f' own_mid (notes_shut core mid ev notes ∙ s.knows.shut)
@@ -388,7 +403,7 @@ module _ (core mid : Core) (T : List Item) (limit : ℕ) (ev : Event) (found beg
       (replies-step core mid T limit ev found begun s fit notes f k n b) k n end_closed end_idle b
       (mid_built core mid T limit ev found begun s fit notes f k n b) known
 
-  first_child : IsBuilt core.site.now.limits (after_step T ev (acts_of mid found begun)) → is_child_of (after_step T ev (acts_of mid found begun)) 0 0 ≡ true →
+  first_child : IsBuilt core.site.now.limits trace_end → is_child_of trace_end 0 0 ≡ true →
       ChildGood core.site.now (step_of T ev (acts_of mid found begun)) 0 0
   first_child b here =
       child_good core.site.now mid T ev found begun s.limits sound_mid (calm-heard core mid ev s.calm notes) (ended-heard core mid ev s.ended notes) k n end_closed b
@@ -400,33 +415,36 @@ module _ (core mid : Core) (T : List Item) (limit : ℕ) (ev : Event) (found beg
       let bs = before_going-site mid found in
       launches-step core.site.now mid (T ++ In ev ∷ []) found begun f k (ap (λ x. x.now) (bs.0 ∙ ms.0)) (ap (λ r. r.site) bs.1 ∙ own_mid)
 
-  built_good : IsBuilt core.site.now.limits (after_step T ev (acts_of mid found begun)) → BuiltGood core.site.now (step_of T ev (acts_of mid found begun))
+  built_good : IsBuilt core.site.now.limits trace_end → BuiltGood core.site.now (step_of T ev (acts_of mid found begun))
   built_good b = record {
     launches = launches;
-    form = record { each = come-acts mid (T ++ In ev ∷ []) found begun f k alone_mid; order = ordered_acts mid found begun };
     connections = λ c known.
-        let z = only_known (after_step T ev (acts_of mid found begun)) c b.one known in
+        let z = only_known trace_end c b.one known in
         subst (λ c. ConnectionGood core.site.now (step_of T ev (acts_of mid found begun)) c) (sym z)
-        (first_connection b (subst (λ c. is_known (after_step T ev (acts_of mid found begun)) c ≡ true) z known));
+        (first_connection b (subst (λ c. is_known trace_end c ≡ true) z known));
     children = λ c j here.
-        let i = only_child (after_step T ev (acts_of mid found begun)) c j n.first here in
+        let i = only_child trace_end c j n.first here in
         subst (λ c. ChildGood core.site.now (step_of T ev (acts_of mid found begun)) c j) (sym i.connection)
         (subst (λ j. ChildGood core.site.now (step_of T ev (acts_of mid found begun)) 0 j) (sym i.child)
         (first_child b
-        (subst (λ j. is_child_of (after_step T ev (acts_of mid found begun)) 0 j ≡ true) i.child
-        (subst (λ c. is_child_of (after_step T ev (acts_of mid found begun)) c j ≡ true) i.connection here))));
+        (subst (λ j. is_child_of trace_end 0 j ≡ true) i.child
+        (subst (λ c. is_child_of trace_end c j ≡ true) i.connection here))));
   }
 
-  end_good : (IsBuilt core.site.now.limits (after_step T ev (acts_of mid found begun)) → ⊥) → (b : Bool) → (acted mid found begun).unbuilt ≡ b → Ends (step_of T ev (acts_of mid found begun))
+  end_good : (IsBuilt core.site.now.limits trace_end → ⊥) → (b : Bool) → core_end.unbuilt ≡ b → Ends (step_of T ev (acts_of mid found begun))
   end_good none true u =
       let v : mid.unbuilt ≡ true = sym (keeps-acted mid found begun).unbuilt ∙ u in
-      ends mid T ev found begun (over_due core mid T limit ev s fit notes v) (alone-handled (answered mid found) (alone-answered mid found f alone_mid)) v n end_closed
+      ends mid T ev found begun sound_mid (over_due core mid T limit ev s fit notes v) (alone-handled (answered mid found) (alone-answered mid found f alone_mid)) v n end_closed
   end_good none false u =
-      let site : (acted mid found begun).site ≡ core.site = (acted-site mid found begun).0 ∙ (noted-site core mid (In ev) notes).0 in
+      let site : core_end.site ≡ core.site = (acted-site mid found begun).0 ∙ (noted-site core mid (In ev) notes).0 in
       absurd (none (rw site at (n.rebuilt u)))
 
   step_good : StepGood core.site.now (step_of T ev (acts_of mid found begun))
-  step_good = record { built = built_good; unbuilt = λ none. end_good none (acted mid found begun).unbuilt refl }
+  step_good = record {
+    form = record { each = come-acts mid (T ++ In ev ∷ []) found begun f k alone_mid; order = ordered_acts mid found begun };
+    built = built_good;
+    unbuilt = λ none. end_good none core_end.unbuilt refl;
+  }
 
 -- ---- the step
 
@@ -549,7 +567,7 @@ Knows-new site alloc = record {
 pub Stands-fresh : (site : Bor Site) (alloc : Global) → AreInRange site.now.limits → asked site.now [] ≡ More → Stands (fresh site alloc) []
 Stands-fresh site alloc limits more = record {
   knows = Knows-new site alloc;
-  good = tt;
+  good = record { begun = refl; steps = tt };
   site = refl;
   limits = limits;
   calm = refl;

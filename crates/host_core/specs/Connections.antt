@@ -5,7 +5,7 @@ use Rattle.host_base.specs.declared.site.Site.{Site}
 use Rattle.host_trace.specs.declared.items.Act.{Act}
 use Rattle.host_trace.specs.declared.items.Act.TheVariants.{WantClient, Shut}
 use Rattle.host_trace.specs.declared.items.Event.{Event}
-use Rattle.host_trace.specs.declared.items.Event.TheVariants.{Accepted, ClientGone, InputGone, WsBinary, WsClosed, WsBad, Exited, Stop}
+use Rattle.host_trace.specs.declared.items.Event.TheVariants.{Accepted, Exited, Stop}
 use Rattle.host_trace.specs.declared.items.Why.{Why}
 use Rattle.host_trace.specs.declared.items.Why.TheVariants.{Done, Stopped, NoMemory}
 use Rattle.host_trace.specs.declared.items.Item.{Item}
@@ -69,14 +69,9 @@ pub record Stops (T : List Item) (c : ℕ) : Type 0 where
 
 -- ---- memory
 
--- a step with such an event takes no memory on the first path, since no reply and no start is due in it
+-- of the events that are built, those in whose step no reply and no start can be due
 abbrev pub takes_none : Event → Bool
 takes_none (Accepted peer) = true
-takes_none (ClientGone c) = true
-takes_none (InputGone k) = true
-takes_none (WsBinary c) = true
-takes_none (WsClosed c) = true
-takes_none (WsBad c) = true
 takes_none (Exited k) = true
 takes_none Stop = true
 takes_none _ = false

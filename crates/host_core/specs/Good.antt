@@ -1,8 +1,9 @@
 -- A good trace, at which the host is ready: what holds at each step's end.
-use Rattle.std.specs.Prelude.{ℕ, true, List, ◌≡◌}
+use Rattle.std.specs.Prelude.{ℕ, Bool, true, List, [], ◌∷◌, ◌≡◌}
 use Rattle.host_base.specs.declared.site.Site.{Site}
 use Rattle.host_trace.specs.declared.items.Item.{Item}
 use Rattle.host_trace.specs.Account.{is_account}
+use Rattle.host_trace.specs.Kinds.{is_event}
 use Rattle.host_trace.specs.Projections.{is_known}
 use Rattle.host_trace.specs.Trace.{Step, end_of, AtEachStep}
 use Rattle.host_core.specs.Built.{IsBuilt}
@@ -43,15 +44,23 @@ pub record ChildGood (site : Site) (s : Step) (c k : ℕ) : Type 0 where
 
 pub record BuiltGood (site : Site) (s : Step) : Type 0 where
   pub launches : Launches site s
-  pub form : Formed s
   pub connections : (c : ℕ) → is_known (end_of s) c ≡ true → ConnectionGood site s c
   pub children : (c k : ℕ) → is_child_of (end_of s) c k ≡ true → ChildGood site s c k
 
--- one step keeps the rules, where the trace up to its end is of the kinds that are built; and where it isn't, the
--- step ends what there is
+-- each act of a step has its form; the step keeps the rules where the trace up to its end is of the kinds that are
+-- built, and ends what there is where it isn't
 pub record StepGood (site : Site) (s : Step) : Type 0 where
+  pub form : Formed s
   pub built : IsBuilt site.limits (end_of s) → BuiltGood site s
   pub unbuilt : (IsBuilt site.limits (end_of s) → ⊥) → Ends s
 
-abbrev pub Good : Site → List Item → Type 0
-Good site T = AtEachStep (StepGood site) T
+-- ---- the trace
+
+-- the first item is an event, so each act belongs to a step
+abbrev pub begins_with_event : List Item → Bool
+begins_with_event [] = true
+begins_with_event (x ∷ items) = is_event x
+
+pub record Good (site : Site) (T : List Item) : Type 0 where
+  pub begun : begins_with_event T ≡ true
+  pub steps : AtEachStep (StepGood site) T

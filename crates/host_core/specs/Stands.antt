@@ -44,10 +44,6 @@ doomed core = not core.child.killed || (core.lost || is_over core || is_dropped 
 abbrev pub fed : Core → Bool
 fed core = not core.child.started || core.child.input_ended
 
--- .. or it has not exited yet
-abbrev pub fed_or_running : Core → Bool
-fed_or_running core = not core.child.started || core.child.input_ended || not core.child.exited
-
 -- before its client is there, nothing was asked, heard or done
 abbrev pub alone_by : Bool → Bool → Bool → Bool
 alone_by peer done more = peer || not done && more

@@ -7,7 +7,7 @@ pub enum Outcome {
     Undecided,
     /// Its output ended, and is the answer.
     Output,
-    /// Nobody waits for its output.
+    /// Nobody waits for its output any more, or it can't be answered yet.
     Dropped,
 }
 
@@ -34,7 +34,7 @@ impl Child {
     ghost use Rattle.std.specs.Prelude.{◌≡◌, if◌then◌else◌, true, false, ◌&&◌};
     ghost use Rattle.host_core.specs.Knows.{decided};
 
-    /// The first item that decides it has its say.
+    /// Records what decided the run, unless that is known already or no child was begun.
     pub fn decide(&mut self, outcome: Outcome)
         ensures { self.new ≡ record self.old { outcome = decided self.old.begun self.old.outcome outcome } }
     {

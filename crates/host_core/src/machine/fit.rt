@@ -48,7 +48,7 @@ impl Core<'_> {
 
     /// Whether an event may come next. Nothing is fed, upgraded or left unsent on the first path, so what
     /// reports that never fits.
-    pub fn fits(&self, ev: &Event) -> bool
+    pub(super) fn fits(&self, ev: &Event) -> bool
         ensures { result ≡ fits_by self.now ev.now }
     {
         let child = &self.child;
