@@ -17,7 +17,7 @@ use Rattle.first_path.specs.declared.asked.Asked.{Asked}
 use Rattle.first_path.specs.declared.asked.Asked.TheVariants.{More, Refused, Script}
 use Rattle.host_core.specs.declared.machine.Core.{Core}
 use Rattle.host_core.specs.Knows.{Knows, Admits, StartsNone, noted, losing, is_first}
-use Rattle.host_core.specs.Due.{asks, is_over, is_input_due, is_kill_due, is_release_due, is_ask_due, input_given, kill_given, release_given, ask_given, handled, handling, due_why, why_of, closed, closed_by, shuts, answered, answering, is_open, is_answer_due, due_answer, writes, is_some_text, gone_on, going_on, gone_on_by, going_by, launch_by, begun_by, starts, is_waiting, acted, acts_of}
+use Rattle.host_core.specs.Due.{asks, is_stopping, is_input_due, is_kill_due, is_release_due, is_ask_due, input_given, kill_given, release_given, ask_given, handled, handling, due_why, why_of, closed, closed_by, shuts, answered, answering, may_answer, is_answer_due, due_answer, writes, is_some_text, gone_on, going_on, gone_on_by, going_by, launch_by, begun_by, starts, is_waiting, acted, acts_of}
 use Rattle.host_core.proofs.KnowsLaws.{Knows-noted, Knows-nil, admits_plain, once_act}
 
 no_start : (act : Act) → start_number (Out act) ≡ [] → child_of 0 0 0 (Out act) ≡ [] → is_start 0 (Out act) ≡ false → StartsNone (Out act)
@@ -98,12 +98,12 @@ admits_shut core why e memory = record {
 }
 
 lost_memory : (core : Core) (why : Why) → due_why core ≡ Some why → core.lost ≡ true → is_no_memory why ≡ true
-lost_memory core why e l = rw (due-lost core.shut core.lost (is_over core && is_some core.peer) core.answered why l e) refl
+lost_memory core why e l = rw (due-lost core.shut core.lost (is_stopping core && is_some core.peer) core.answered why l e) refl
 
 Knows-shut : (core : Core) (V : List Item) (why : Option Why) → due_why core ≡ why → Knows core V → Knows (closed_by core why) (V ++ map Out (shuts why))
 Knows-shut core V None e k = Knows-nil core V k
 Knows-shut core V (Some NoMemory) e k =
-    let l : core.lost ≡ true = due-memory core.shut core.lost (is_over core && is_some core.peer) core.answered e in
+    let l : core.lost ≡ true = due-memory core.shut core.lost (is_stopping core && is_some core.peer) core.answered e in
     rw l (Knows-noted core V (Out (Shut 0 NoMemory)) k (admits_shut core NoMemory e (λ _. refl)) (once_act core (Shut 0 NoMemory) refl))
 Knows-shut core V (Some Done) e k = Knows-noted core V (Out (Shut 0 Done)) k (admits_shut core Done e (lost_memory core Done e)) (once_act core (Shut 0 Done) refl)
 Knows-shut core V (Some Gone) e k = Knows-noted core V (Out (Shut 0 Gone)) k (admits_shut core Gone e (lost_memory core Gone e)) (once_act core (Shut 0 Gone) refl)
@@ -159,8 +159,8 @@ Knows-losing core V unshut k = Knows-losing_all core V core.request.bytes core.c
 
 -- ---- the answer
 
-pub due_open : (core : Core) → is_answer_due core ≡ true → is_open core ≡ true
-due_open core e = (and_parts (is_open core) (is_some_text (due_answer core)) e).0
+pub due_open : (core : Core) → is_answer_due core ≡ true → may_answer core ≡ true
+due_open core e = (and_parts (may_answer core) (is_some_text (due_answer core)) e).0
 
 Knows-written : (core : Core) (V : List Item) (text : Option (List ℕ)) → Knows core V →
     Knows (record core { answered = is_some_text text || core.answered }) (V ++ map Out (writes text))
@@ -171,7 +171,7 @@ Knows-written core V (Some text) k =
 pub Knows-answered : (core : Core) (V : List Item) (found : Bool) → (found ≡ false → is_answer_due core ≡ true) → Knows core V →
     Knows (answered core found) (V ++ map Out (answering core found))
 Knows-answered core V true f k =
-    elim (is_open core) as (λ b. Knows (if b then record core { answered = is_some_text (due_answer core) || core.answered } else core)
+    elim (may_answer core) as (λ b. Knows (if b then record core { answered = is_some_text (due_answer core) || core.answered } else core)
     (V ++ map Out (if b then writes (due_answer core) else [])))
     [ true ↦ Knows-written core V (due_answer core) k | false ↦ Knows-nil core V k ]
 Knows-answered core V false f k = Knows-nil _ V (Knows-losing core V (or_parts core.shut core.lost (not-true _ (due_open core (f refl)))).0 k)

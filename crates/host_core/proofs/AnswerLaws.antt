@@ -16,22 +16,22 @@ use Rattle.host_core.specs.Texts.{text_of_output}
 use Rattle.host_core.specs.Due.{answer_by, text_by, is_undecided, is_script}
 use Rattle.host_core.specs.Knows.{zero_if, decided, outcome_of}
 use Rattle.host_core.specs.Stands.{is_output}
-use Rattle.host_core.specs.declared.child.Outcome.{Outcome}
-use Rattle.host_core.specs.declared.child.Outcome.TheVariants.{Undecided, Output, Dropped}
+use Rattle.host_core.specs.declared.child.Decision.{Decision}
+use Rattle.host_core.specs.declared.child.Decision.TheVariants.{Undecided, Output, Dropped}
 use Rattle.host_core.proofs.DeciderLaws.{outcome_said, outcome-built}
 
 -- the model's answer, by the core's words
-abbrev pub run_by : Outcome → List ℕ → Answer
+abbrev pub run_by : Decision → List ℕ → Answer
 run_by Undecided output = undecided
 run_by Output output = answer_of_output (derived_of output)
 run_by Dropped output = none
 
-abbrev pub model_by : Bool → Outcome → Asked → List ℕ → Answer
+abbrev pub model_by : Bool → Decision → Asked → List ℕ → Answer
 model_by begun o More output = undecided
 model_by begun o (Refused cause bare) output = fault cause bare
 model_by begun o (Script index host) output = if begun then run_by o output else undecided
 
-run-said : (o : Outcome) (output : List ℕ) → answer_of_run (outcome_said o) output ≡ run_by o output
+run-said : (o : Decision) (output : List ℕ) → answer_of_run (outcome_said o) output ≡ run_by o output
 run-said Undecided output = refl
 run-said Output output = refl
 run-said Dropped output = refl
@@ -58,7 +58,7 @@ output-text (Document r) = refl
 output-text (RefusedOutput cause) = refl
 
 -- what is given is the spelling of the answer, where a child was begun only for a script
-pub text-is : (begun : Bool) (o : Outcome) (request : Asked) (output : List ℕ) → (begun ≡ true → is_script request ≡ true) →
+pub text-is : (begun : Bool) (o : Decision) (request : Asked) (output : List ℕ) → (begun ≡ true → is_script request ≡ true) →
     text_by (answer_by begun o request output) ≡ spelling (model_by begun o request output)
 text-is true o More output f = absurd (let e : false ≡ true = f refl in cc)
 text-is true o (Refused cause bare) output f = absurd (let e : false ≡ true = f refl in cc)
@@ -70,7 +70,7 @@ text-is false o (Refused cause bare) output f = refl
 text-is false o (Script index host) output f = refl
 
 -- nothing is due of a script that wasn't begun, nor of one that is undecided
-pub no_text : (o : Outcome) (request : Asked) (output : List ℕ) → is_script request ≡ true → text_by (answer_by false o request output) ≡ []
+pub no_text : (o : Decision) (request : Asked) (output : List ℕ) → is_script request ≡ true → text_by (answer_by false o request output) ≡ []
 no_text o More output s = absurd (cc)
 no_text o (Refused cause bare) output s = absurd (cc)
 no_text o (Script index host) output s = refl
@@ -82,7 +82,7 @@ no_spelling true (Script index host) output s = refl
 no_spelling false (Script index host) output s = refl
 
 -- the answer of a connection that is shut stays
-pub stable : (b d : Bool) (o now : Outcome) (r : Asked) (out out' : List ℕ) → (b && is_undecided o) ≡ false → (is_output o ≡ true → out' ≡ out) →
+pub stable : (b d : Bool) (o now : Decision) (r : Asked) (out out' : List ℕ) → (b && is_undecided o) ≡ false → (is_output o ≡ true → out' ≡ out) →
     model_by b (if d then decided b o now else o) r out' ≡ model_by b o r out
 stable b d o now More out out' c f = refl
 stable b d o now (Refused cause bare) out out' c f = refl

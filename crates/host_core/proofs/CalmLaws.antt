@@ -9,13 +9,13 @@ use Rattle.host_trace.specs.declared.items.Why.TheVariants.{Done, Gone, Cut, Idl
 use Rattle.first_path.specs.declared.asked.Asked.{Asked}
 use Rattle.first_path.specs.declared.asked.Asked.TheVariants.{More, Refused, Script}
 use Rattle.first_path.specs.FirstRequest.{asked}
-use Rattle.host_core.specs.declared.child.Outcome.{Outcome}
-use Rattle.host_core.specs.declared.child.Outcome.TheVariants.{Undecided, Output, Dropped}
+use Rattle.host_core.specs.declared.child.Decision.{Decision}
+use Rattle.host_core.specs.declared.child.Decision.TheVariants.{Undecided, Output, Dropped}
 use Rattle.host_core.specs.declared.machine.Core.{Core}
 use Rattle.host_core.specs.Knows.{decided}
 use Rattle.host_core.specs.Stands.{calm, calm_by, ended, is_closed, is_output, apt, apt_by}
 use Rattle.host_core.specs.Answer.{is_unfinished}
-use Rattle.host_core.specs.Due.{asks, is_undecided, is_over, handled, closed, closed_by, due_why, why_of, gone_on, gone_on_by, is_waiting, answered, answer_by, due_answer, acted, is_open, is_some_text, launch_by, begun_by, is_script}
+use Rattle.host_core.specs.Due.{asks, is_undecided, is_stopping, handled, closed, closed_by, due_why, why_of, gone_on, gone_on_by, is_waiting, answered, answer_by, due_answer, acted, may_answer, is_some_text, launch_by, begun_by, is_script}
 use Rattle.host_core.proofs.ActsLaws.{due-memory, waiting_open}
 
 -- ---- closing closes
@@ -28,7 +28,7 @@ no_why false false false true e = absurd (cc)
 no_why false false false false e = refl
 
 closes : (core : Core) (why : Option Why) → due_why core ≡ why → is_closed (closed_by core why) ≡ true
-closes core None e = no_why core.shut core.lost (is_over core && is_some core.peer) core.answered e
+closes core None e = no_why core.shut core.lost (is_stopping core && is_some core.peer) core.answered e
 closes core (Some NoMemory) e = refl
 closes core (Some _) e = refl
 
@@ -37,13 +37,13 @@ closed-closed core = closes core (due_why core) refl
 
 -- ---- deciding settles
 
-undecided-decided : (b : Bool) (o now : Outcome) → is_undecided now ≡ false → (b && is_undecided (decided b o now)) ≡ false
+undecided-decided : (b : Bool) (o now : Decision) → is_undecided now ≡ false → (b && is_undecided (decided b o now)) ≡ false
 undecided-decided true Undecided now e = e
 undecided-decided true Output now e = refl
 undecided-decided true Dropped now e = refl
 undecided-decided false o now e = refl
 
-pub calm-noted : (s r t u st ub d b : Bool) (o now : Outcome) → is_undecided now ≡ false → (st ≡ true → d ≡ true) →
+pub calm-noted : (s r t u st ub d b : Bool) (o now : Decision) → is_undecided now ≡ false → (st ≡ true → d ≡ true) →
     calm_by (s || r || (t || u)) b (is_undecided o) ≡ true →
     calm_by (s || r || ((st || t) || (ub || u))) b (is_undecided (if ub || d then decided b o now else o)) ≡ true
 calm-noted s r t u st true d b o now n f h = let e = undecided-decided b o now n in grind (arith, common_steps)
@@ -52,7 +52,7 @@ calm-noted s r t u true false false b o now n f h = absurd (let e : false ≡ tr
 calm-noted s r t u false false false b o now n f h = h
 
 -- an answer is given to what is decided or not begun
-undecided-answer : (b : Bool) (o : Outcome) (request : Asked) (output : List ℕ) → is_some_text (answer_by b o request output) ≡ true → (b && is_undecided o) ≡ false
+undecided-answer : (b : Bool) (o : Decision) (request : Asked) (output : List ℕ) → is_some_text (answer_by b o request output) ≡ true → (b && is_undecided o) ≡ false
 undecided-answer true Undecided request output e = absurd (cc)
 undecided-answer true Output request output e = refl
 undecided-answer true Dropped request output e = refl
@@ -64,15 +64,15 @@ calm-answer s r t b u false f h = h
 
 calm-if : (w : Bool) (core : Core) → calm core ≡ true → calm (if w then record core { answered = is_some_text (due_answer core) || core.answered } else core) ≡ true
 calm-if true core h =
-    calm-answer core.shut core.answered (is_over core) core.child.begun (is_undecided core.child.outcome) (is_some_text (due_answer core))
+    calm-answer core.shut core.answered (is_stopping core) core.child.begun (is_undecided core.child.outcome) (is_some_text (due_answer core))
     (undecided-answer core.child.begun core.child.outcome (asks core) core.child.output) h
 calm-if false core h = h
 
 pub calm-answered : (core : Core) (found : Bool) → calm core ≡ true → calm (answered core found) ≡ true
-calm-answered core true h = calm-if (is_open core) core h
+calm-answered core true h = calm-if (may_answer core) core h
 calm-answered core false h = h
 
-calm-why : (s l t a r b : Bool) (o : Outcome) (why : Why) → why_of s l (t && a) r ≡ Some why → l ≡ false → calm_by (s || r || t) b (is_undecided o) ≡ true → calm_by true b (is_undecided o) ≡ true
+calm-why : (s l t a r b : Bool) (o : Decision) (why : Why) → why_of s l (t && a) r ≡ Some why → l ≡ false → calm_by (s || r || t) b (is_undecided o) ≡ true → calm_by true b (is_undecided o) ≡ true
 calm-why true l t a r b o why e u h = absurd (cc)
 calm-why false true t a r b o why e u h = absurd (cc)
 calm-why false false true true r b o why e u h = grind (arith, common_steps)
@@ -89,10 +89,10 @@ not_lost false why s t r e n = refl
 
 calm-shut : (core : Core) (why : Why) → due_why core ≡ Some why → is_no_memory why ≡ false → calm core ≡ true → calm (record core { shut = true }) ≡ true
 calm-shut core why e n h =
-    calm-why core.shut core.lost (is_over core) (is_some core.peer) core.answered core.child.begun core.child.outcome why e
-    (not_lost core.lost why core.shut (is_over core && is_some core.peer) core.answered e n) h
+    calm-why core.shut core.lost (is_stopping core) (is_some core.peer) core.answered core.child.begun core.child.outcome why e
+    (not_lost core.lost why core.shut (is_stopping core && is_some core.peer) core.answered e n) h
 
-calm-dropped : (b : Bool) (o : Outcome) → calm_by true b (is_undecided (decided b o Dropped)) ≡ true
+calm-dropped : (b : Bool) (o : Decision) → calm_by true b (is_undecided (decided b o Dropped)) ≡ true
 calm-dropped true Undecided = refl
 calm-dropped true Output = refl
 calm-dropped true Dropped = refl
@@ -112,17 +112,17 @@ calm-closed_by core (Some Stopped) e h = calm-shut core Stopped e refl h
 pub waiting_calm : (s a b l t r : Bool) → not (s || not a || b) ≡ true → (s || not (l || t && a || r)) ≡ true → (s || r || t) ≡ false
 waiting_calm s a b l t r w c = grind (arith, common_steps)
 
-calm-begun : (core : Core) (launch : Option Launch) → (core.shut || core.answered || is_over core) ≡ false → calm core ≡ true → calm (begun_by core launch) ≡ true
+calm-begun : (core : Core) (launch : Option Launch) → (core.shut || core.answered || is_stopping core) ≡ false → calm core ≡ true → calm (begun_by core launch) ≡ true
 calm-begun core None w h = h
 calm-begun core (Some launch) w h = rw w refl
 
-calm-going : (core : Core) (request : Asked) (found : Bool) → (core.shut || core.answered || is_over core) ≡ false → calm core ≡ true → calm (gone_on_by core request found) ≡ true
+calm-going : (core : Core) (request : Asked) (found : Bool) → (core.shut || core.answered || is_stopping core) ≡ false → calm core ≡ true → calm (gone_on_by core request found) ≡ true
 calm-going core More found w h = h
 calm-going core (Script index host) true w h = calm-begun core (launch_by core index host) w h
 calm-going core (Script index host) false w h = h
 calm-going core (Refused cause bare) found w h = h
 
-calm-gone : (w : Bool) (core : Core) (found : Bool) → (w ≡ true → (core.shut || core.answered || is_over core) ≡ false) → calm core ≡ true →
+calm-gone : (w : Bool) (core : Core) (found : Bool) → (w ≡ true → (core.shut || core.answered || is_stopping core) ≡ false) → calm core ≡ true →
     calm (if w then gone_on_by core (asks core) found else core) ≡ true
 calm-gone true core found f h = calm-going core (asks core) found (f refl) h
 calm-gone false core found f h = h
@@ -141,7 +141,7 @@ calm-acted core found begun h =
     let c1 : calm b ≡ true = calm-handled a (calm-answered core found h) in
     let c2 : calm d ≡ true = calm-closed_by b (due_why b) refl c1 in
     let c3 : calm n ≡ true = calm-gone (is_waiting d) d begun
-    (λ e. waiting_calm d.shut (is_some d.peer) d.child.begun d.lost (is_over d) d.answered e (closed-closed b)) c2 in
+    (λ e. waiting_calm d.shut (is_some d.peer) d.child.begun d.lost (is_stopping d) d.answered e (closed-closed b)) c2 in
     calm-closed_by n (due_why n) refl c3
 
 pub closed-acted : (core : Core) (found begun : Bool) → is_closed (acted core found begun) ≡ true
@@ -150,7 +150,7 @@ closed-acted core found begun = closed-closed (gone_on (closed (handled (answere
 
 -- ---- the end of the output
 
-output-decided : (b : Bool) (o : Outcome) → is_output (decided b o Dropped) ≡ true → is_output o ≡ true
+output-decided : (b : Bool) (o : Decision) → is_output (decided b o Dropped) ≡ true → is_output o ≡ true
 output-decided true Undecided e = absurd (cc)
 output-decided true Output e = refl
 output-decided true Dropped e = absurd (cc)
@@ -185,7 +185,7 @@ ended-if true core h = h
 ended-if false core h = h
 
 ended-answered : (core : Core) (found : Bool) → ended core ≡ true → ended (answered core found) ≡ true
-ended-answered core true h = ended-if (is_open core) core h
+ended-answered core true h = ended-if (may_answer core) core h
 ended-answered core false h = h
 
 or_more : (p a b : Bool) → (not p || b) ≡ true → (not p || (a || b)) ≡ true
@@ -242,7 +242,7 @@ closed_unlost s l x r c e = grind (arith, common_steps)
 apt-gone : (w : Bool) (core : Core) (found : Bool) → is_waiting core ≡ w → is_closed core ≡ true → apt core ≡ true → apt (if w then gone_on_by core (asks core) found else core) ≡ true
 apt-gone true core found w c h =
     let p = waiting_open core.shut (not (is_some core.peer)) core.child.begun w in
-    let l = closed_unlost core.shut core.lost (is_over core && is_some core.peer) core.answered c p.0 in
+    let l = closed_unlost core.shut core.lost (is_stopping core && is_some core.peer) core.answered c p.0 in
     apt-going core (asks core) found refl p.0 l p.2 h
 apt-gone false core found w c h = h
 
@@ -251,7 +251,7 @@ apt-if true core h = h
 apt-if false core h = h
 
 apt-answered : (core : Core) (found : Bool) → apt core ≡ true → apt (answered core found) ≡ true
-apt-answered core true h = apt-if (is_open core) core h
+apt-answered core true h = apt-if (may_answer core) core h
 apt-answered core false h = or_second core.shut (apt_by core.asked core.child.begun (asks core))
 
 apt-handled : (core : Core) → apt core ≡ true → apt (handled core) ≡ true
@@ -269,7 +269,7 @@ apt-acted core found begun h =
 -- ---- nothing more is done for a connection that is shut
 
 closed-same : (core : Core) → core.shut ≡ true → closed core ≡ core
-closed-same core e = ap (λ (w : Option Why). closed_by core w) (ap (λ s. why_of s core.lost (is_over core && is_some core.peer) core.answered) e)
+closed-same core e = ap (λ (w : Option Why). closed_by core w) (ap (λ s. why_of s core.lost (is_stopping core && is_some core.peer) core.answered) e)
 
 shut_waits : (s a b : Bool) → s ≡ true → not (s || a || b) ≡ false
 shut_waits true a b e = refl
@@ -317,7 +317,7 @@ handled-outcome core = refl
 
 closed_by-outcome : (core : Core) (why : Option Why) → due_why core ≡ why → core.lost ≡ false → (closed_by core why).child.outcome ≡ core.child.outcome
 closed_by-outcome core None e l = refl
-closed_by-outcome core (Some NoMemory) e l = absurd (let t : core.lost ≡ true = due-memory core.shut core.lost (is_over core && is_some core.peer) core.answered e in cc)
+closed_by-outcome core (Some NoMemory) e l = absurd (let t : core.lost ≡ true = due-memory core.shut core.lost (is_stopping core && is_some core.peer) core.answered e in cc)
 closed_by-outcome core (Some _) e l = refl
 
 -- either it was begun before or it wasn't, or it is begun now, for a script
@@ -359,7 +359,7 @@ went core true begun l =
     let b = handled a in
     let d = closed b in
     let n = gone_on d begun in
-    let k = if-same (is_open core) core in
+    let k = if-same (may_answer core) core in
     let kh = handled-same a in
     let kd = closed_by-same b (due_why b) in
     let kn = closed_by-same n (due_why n) in
@@ -396,7 +396,7 @@ lost_by : (s l x r : Bool) → (s || not (l || x || r)) ≡ true → l ≡ true 
 lost_by s l x r c e = grind (arith, common_steps)
 
 pub lost_shut : (core : Core) → is_closed core ≡ true → core.lost ≡ true → core.shut ≡ true
-lost_shut core c e = lost_by core.shut core.lost (is_over core && is_some core.peer) core.answered c e
+lost_shut core c e = lost_by core.shut core.lost (is_stopping core && is_some core.peer) core.answered c e
 
 answered_by : (s l x r : Bool) → (s || not (l || x || r)) ≡ true → r ≡ true → s ≡ true
 answered_by s l x r c e = grind (arith, common_steps)
@@ -405,9 +405,9 @@ unanswered_by : (s l x r : Bool) → (s || not (l || x || r)) ≡ true → s ≡
 unanswered_by s l x r c e = grind (arith, common_steps)
 
 pub unanswered_yet : (core : Core) → is_closed core ≡ true → core.shut ≡ false → core.answered ≡ false
-unanswered_yet core c e = unanswered_by core.shut core.lost (is_over core && is_some core.peer) core.answered c e
+unanswered_yet core c e = unanswered_by core.shut core.lost (is_stopping core && is_some core.peer) core.answered c e
 
-pub answered-lost : (core : Core) (begun : Bool) → is_open core ≡ true → is_some_text (due_answer core) ≡ true → (acted core true begun).lost ≡ core.lost
+pub answered-lost : (core : Core) (begun : Bool) → may_answer core ≡ true → is_some_text (due_answer core) ≡ true → (acted core true begun).lost ≡ core.lost
 unfolding acted
 answered-lost core begun o t =
     let a : answered core true ≡ record core { answered = true } =
@@ -415,5 +415,5 @@ answered-lost core begun o t =
     let h = handled (record core { answered = true }) in
     let r : (closed h).answered ≡ true = (closed_by-same h (due_why h)).answered ∙ (handled-same (record core { answered = true })).answered in
     let s : (closed h).shut ≡ true =
-    answered_by (closed h).shut (closed h).lost (is_over (closed h) && is_some (closed h).peer) (closed h).answered (closed-closed h) r in
+    answered_by (closed h).shut (closed h).lost (is_stopping (closed h) && is_some (closed h).peer) (closed h).answered (closed-closed h) r in
     rw (a, gone-same (closed h) begun s, closed-same (closed h) s) ((closed_by-same h (due_why h)).lost ∙ (handled-same (record core { answered = true })).lost)

@@ -17,14 +17,14 @@ use Rattle.host_trace.specs.Projections.{children, start_stands, started, exited
 use Rattle.host_trace.specs.Told.{when}
 use Rattle.host_trace.specs.Trace.{step_of, after_step}
 use Rattle.std.proofs.lemmas.List.Concat.{flat_map-cons}
-use Rattle.host_core.specs.declared.child.Outcome.{Outcome}
-use Rattle.host_core.specs.declared.child.Outcome.TheVariants.{Undecided, Output, Dropped}
+use Rattle.host_core.specs.declared.child.Decision.{Decision}
+use Rattle.host_core.specs.declared.child.Decision.TheVariants.{Undecided, Output, Dropped}
 use Rattle.host_core.specs.declared.machine.Core.{Core}
 use Rattle.host_core.specs.Built.{IsBuilt, is_built_item}
 use Rattle.host_core.specs.Children.{Children}
 use Rattle.host_core.specs.Demands.{run, is_by_output, is_by_other, is_waited_out, ends_waiting, is_child_of, must_end_input, must_kill, must_release, must_ask}
 use Rattle.host_core.specs.Demands as Demand
-use Rattle.host_core.specs.Due.{is_undecided, is_dropped, is_over, is_input_due, is_kill_due, is_release_due, is_ask_due, input_given, kill_given, release_given, answered, acted, acts_of}
+use Rattle.host_core.specs.Due.{is_undecided, is_dropped, is_stopping, is_input_due, is_kill_due, is_release_due, is_ask_due, input_given, kill_given, release_given, answered, acted, acts_of}
 use Rattle.host_core.specs.Good.{ChildGood}
 use Rattle.host_core.specs.Knows.{Knows, decided, ends, one_if}
 use Rattle.host_core.specs.Stands.{calm, calm_by, born_by, is_output, ended, is_closed}
@@ -40,17 +40,17 @@ use Rattle.std.proofs.Math.Bool.{or-true}
 
 -- ---- what the model says of an outcome
 
-said_other : (o : Outcome) → is_by_other (outcome_said o) ≡ is_dropped o
+said_other : (o : Decision) → is_by_other (outcome_said o) ≡ is_dropped o
 said_other Undecided = refl
 said_other Output = refl
 said_other Dropped = refl
 
-said_output : (o : Outcome) → is_by_output (outcome_said o) ≡ is_output o
+said_output : (o : Decision) → is_by_output (outcome_said o) ≡ is_output o
 said_output Undecided = refl
 said_output Output = refl
 said_output Dropped = refl
 
-said_undecided : (o : Outcome) → Demand.is_undecided (outcome_said o) ≡ is_undecided o
+said_undecided : (o : Decision) → Demand.is_undecided (outcome_said o) ≡ is_undecided o
 said_undecided Undecided = refl
 said_undecided Output = refl
 said_undecided Dropped = refl
@@ -103,7 +103,7 @@ stood true v due last e f m = f ∙ (ap (λ d. d || v) (sym e) ∙ either v)
     either false = refl
 stood false v due last e f m = absurd (cc)
 
-if_same : (b : Bool) (o : Outcome) → (if b then o else o) ≡ o
+if_same : (b : Bool) (o : Decision) → (if b then o else o) ≡ o
 if_same true o = refl
 if_same false o = refl
 
@@ -113,7 +113,7 @@ input_same true true false q h = absurd (cc)
 input_same true false i q h = refl
 input_same false ex i q h = refl
 
-kill_same : (st ex kd l stp s r u w : Bool) (o o' : Outcome) → (st ≡ true → calm_by (s || r || (stp || u)) true (is_undecided o) ≡ true) →
+kill_same : (st ex kd l stp s r u w : Bool) (o o' : Decision) → (st ≡ true → calm_by (s || r || (stp || u)) true (is_undecided o) ≡ true) →
     u ≡ false → (st ≡ true → o' ≡ (if l && not s then decided true o Dropped else o)) → (st ≡ true → is_output o' ≡ true → w ≡ (stp || l)) →
     ((st && not ex && (is_dropped o' || is_output o' && w)) && not kd) ≡ (st && (l || (stp || u) || is_dropped o) && not ex && not kd)
 kill_same false ex kd l stp s r u w o o' c n e f = refl
@@ -142,7 +142,7 @@ kill_same true false false l stp s r u w Dropped o' c n e f =
     held true = refl
     held false = refl
 
-release_same : (ex kd oe l stp s r u du : Bool) (o o' : Outcome) → (ex ≡ true → calm_by (s || r || (stp || u)) true (is_undecided o) ≡ true) → u ≡ false → (ex ≡ true → du ≡ false) →
+release_same : (ex kd oe l stp s r u du : Bool) (o o' : Decision) → (ex ≡ true → calm_by (s || r || (stp || u)) true (is_undecided o) ≡ true) → u ≡ false → (ex ≡ true → du ≡ false) →
     (ex ≡ true → o' ≡ (if l && not s then decided true o Dropped else o)) → (not kd || (l || (stp || u) || is_dropped o)) ≡ true → (not (is_output o) || oe) ≡ true →
     ((ex && (is_dropped o' || (du || kd))) && not oe) ≡ (ex && (l || (stp || u) || is_dropped o) && not oe)
 release_same false kd oe l stp s r u du o o' c n d e k h = refl
@@ -161,7 +161,7 @@ release_same true kd false false true s r u du Undecided o' c n d e k h =
 release_same true true false false false s r u du Undecided o' c n d e k h = absurd (let g : (not true || (false || (false || u) || false)) ≡ false = rw n refl in cc)
 release_same true false false false false s r u du Undecided o' c n d e k h = rw (e refl, n, d refl) refl
 
-ask_same : (st kU oU pend wd l stp s r u : Bool) (o o' : Outcome) → (st ≡ true → calm_by (s || r || (stp || u)) true (is_undecided o) ≡ true) → u ≡ false → pend ≡ false →
+ask_same : (st kU oU pend wd l stp s r u : Bool) (o o' : Decision) → (st ≡ true → calm_by (s || r || (stp || u)) true (is_undecided o) ≡ true) → u ≡ false → pend ≡ false →
     (st ≡ true → o' ≡ (if l && not s then decided true o Dropped else o)) →
     ((st && is_undecided o' && not kU && not oU && not pend) && not wd) ≡ (st && (not oU && not kU && not l && not (stp || u)) && is_undecided o && not wd)
 ask_same false kU oU pend wd l stp s r u o o' c n p e = refl
@@ -196,7 +196,7 @@ ask_same true kU oU pend wd false false s r u Undecided o' c n p e = rw (e refl,
 
 -- ---- what is known of the trace
 
-out_is : (o : Outcome) → is_output o ≡ true → o ≡ Output
+out_is : (o : Decision) → is_output o ≡ true → o ≡ Output
 out_is Output e = refl
 out_is Undecided e = absurd (cc)
 out_is Dropped e = absurd (cc)
@@ -267,7 +267,7 @@ module _ (site : Site) (mid : Core) (T : List Item) (ev : Event) (found begun : 
   child_mid : replied.child ≡ mid.child
   child_mid = child-answered mid found
 
-  over_mid : is_over replied ≡ (mid.stopped || mid.unbuilt)
+  over_mid : is_stopping replied ≡ (mid.stopped || mid.unbuilt)
   over_mid = let q = keeps-answered mid found in rw (q.stopped, q.unbuilt) refl
 
   begun_mid : mid.child.started ≡ true → mid.child.begun ≡ true
@@ -298,7 +298,7 @@ module _ (site : Site) (mid : Core) (T : List Item) (ev : Event) (found begun : 
   kill_due : is_kill_due replied
       ≡ (mid.child.started && (replied.lost || (mid.stopped || mid.unbuilt) || is_dropped mid.child.outcome) && not mid.child.exited && not mid.child.killed)
   kill_due =
-      ap (λ c. c.started && (replied.lost || is_over replied || is_dropped c.outcome) && not c.exited && not c.killed) child_mid
+      ap (λ c. c.started && (replied.lost || is_stopping replied || is_dropped c.outcome) && not c.exited && not c.killed) child_mid
       ∙ ap (λ o. mid.child.started && (replied.lost || o || is_dropped mid.child.outcome) && not mid.child.exited && not mid.child.killed) over_mid
 
   waited_end : mid.child.started ≡ true → is_output last.child.outcome ≡ true →
@@ -330,7 +330,7 @@ module _ (site : Site) (mid : Core) (T : List Item) (ev : Event) (found begun : 
   release_due : is_release_due replied
       ≡ (mid.child.exited && (replied.lost || (mid.stopped || mid.unbuilt) || is_dropped mid.child.outcome) && not mid.child.output_ended)
   release_due =
-      ap (λ c. c.exited && (replied.lost || is_over replied || is_dropped c.outcome) && not c.output_ended) child_mid
+      ap (λ c. c.exited && (replied.lost || is_stopping replied || is_dropped c.outcome) && not c.output_ended) child_mid
       ∙ ap (λ o. mid.child.exited && (replied.lost || o || is_dropped mid.child.outcome) && not mid.child.output_ended) over_mid
 
   no_kill : mid.child.exited ≡ true → is_kill_due replied ≡ false
@@ -379,7 +379,7 @@ module _ (site : Site) (mid : Core) (T : List Item) (ev : Event) (found begun : 
   ask_due =
       rw (output_end, killed_end)
       (ap (λ c. c.started
-      && (not (is_release_due replied || c.output_ended) && not (is_kill_due replied || c.killed) && not replied.lost && not (is_over replied))
+      && (not (is_release_due replied || c.output_ended) && not (is_kill_due replied || c.killed) && not replied.lost && not (is_stopping replied))
       && is_undecided c.outcome && not c.asked) child_mid
       ∙ ap (λ o. mid.child.started
       && (not (is_release_due replied || mid.child.output_ended) && not (is_kill_due replied || mid.child.killed) && not replied.lost && not o)
@@ -453,7 +453,7 @@ module _ (site : Site) (mid : Core) (T : List Item) (ev : Event) (found begun : 
       (over_decided mid.stopped replied.lost mid.shut mid.answered mid.unbuilt mid.child.outcome last.child.outcome
       (is_waited_out site.limits 0 (since (is_child_eof 0) U)) sp (calm_mid st) (outcome_end st) (waited_end st))
     where
-      over_decided : (stp l s r u : Bool) (o o' : Outcome) (w : Bool) → stp ≡ true → calm_by (s || r || (stp || u)) true (is_undecided o) ≡ true →
+      over_decided : (stp l s r u : Bool) (o o' : Decision) (w : Bool) → stp ≡ true → calm_by (s || r || (stp || u)) true (is_undecided o) ≡ true →
           o' ≡ (if l && not s then decided true o Dropped else o) → (is_output o' ≡ true → w ≡ (stp || l)) → (is_dropped o' || is_output o' && w) ≡ true
       over_decided stp l s r u Undecided o' w t c e f =
           absurd (let h : calm_by (s || r || (stp || u)) true true ≡ false = rw t (grind (arith, common_steps)) in cc)

@@ -28,8 +28,8 @@ use Rattle.first_path.specs.declared.derived.Derived.TheVariants.{Document, Refu
 use Rattle.first_path.specs.FirstRequest.{asked}
 use Rattle.first_path.specs.FirstOutput.{derived}
 use Rattle.reply_writer.specs.Spelling.{whole_text_of}
-use Rattle.host_core.specs.declared.child.Outcome.{Outcome}
-use Rattle.host_core.specs.declared.child.Outcome.TheVariants.{Undecided, Output, Dropped}
+use Rattle.host_core.specs.declared.child.Decision.{Decision}
+use Rattle.host_core.specs.declared.child.Decision.TheVariants.{Undecided, Output, Dropped}
 use Rattle.host_core.specs.declared.machine.Core.{Core}
 use Rattle.host_core.specs.Acts.{picked}
 use Rattle.host_core.specs.Answer.{Answer, reply, fault, none, undecided, answer, spelling, is_final, is_unfinished}
@@ -37,7 +37,7 @@ use Rattle.host_core.specs.Built.{IsBuilt, is_built_item}
 use Rattle.host_core.specs.Connections.{stands_whole, why_due, shut_for, takes_none}
 use Rattle.host_core.specs.Delivery.{whole}
 use Rattle.host_core.specs.Demands.{must_begin, must_hear, has_begun}
-use Rattle.host_core.specs.Due.{asks, is_over, is_open, is_answer_due, is_start_due, is_script, handled, closed, closed_by, due_why, why_of, shuts, gone_on, gone_on_by, is_waiting, answered, answer_by, due_answer, is_some_text, text_by, acted, acts_of, launch_by, begun_by}
+use Rattle.host_core.specs.Due.{asks, is_stopping, may_answer, is_answer_due, is_start_due, is_script, handled, closed, closed_by, due_why, why_of, shuts, gone_on, gone_on_by, is_waiting, answered, answer_by, due_answer, is_some_text, text_by, acted, acts_of, launch_by, begun_by}
 use Rattle.host_core.specs.Good.{ConnectionGood}
 use Rattle.host_core.specs.Knows.{Knows, zero_if}
 use Rattle.host_core.specs.Replies.{Replies}
@@ -64,7 +64,7 @@ output_some : (d : Derived) → nat_lt 0 (length (text_of_output d)) ≡ true
 output_some (Document r) = text_some r false true
 output_some (RefusedOutput cause) = text_some _ false true
 
-pub due_some : (b : Bool) (o : Outcome) (request : Asked) (output : List ℕ) → nat_lt 0 (length (text_by (answer_by b o request output))) ≡ is_some_text (answer_by b o request output)
+pub due_some : (b : Bool) (o : Decision) (request : Asked) (output : List ℕ) → nat_lt 0 (length (text_by (answer_by b o request output))) ≡ is_some_text (answer_by b o request output)
 due_some true Output request output = output_some (derived output)
 due_some true Undecided request output = refl
 due_some true Dropped request output = refl
@@ -99,7 +99,7 @@ known_peer core U e k = by_peer (is_some (peer_of U 0)) refl
 
 pub record Went (old new : Core) : Type 0 where
   pub shut : new.shut ≡ old.shut
-  pub over : (is_over new && is_some new.peer) ≡ (is_over old && is_some old.peer)
+  pub over : (is_stopping new && is_some new.peer) ≡ (is_stopping old && is_some old.peer)
   pub answered : new.answered ≡ old.answered
 
 went_begun : (core : Core) (launch : Option Launch) → Went core (begun_by core launch)
@@ -117,11 +117,11 @@ went_if true core found = went_going core (asks core) found
 went_if false core found = record { shut = refl; over = refl; answered = refl }
 
 -- after a core that isn't shut, lost, over or answered goes on, it is shut for want of memory or not at all
-later_why : (core : Core) (found : Bool) → core.shut ≡ false → (is_over core && is_some core.peer) ≡ false → core.answered ≡ false →
+later_why : (core : Core) (found : Bool) → core.shut ≡ false → (is_stopping core && is_some core.peer) ≡ false → core.answered ≡ false →
     due_why (gone_on core found) ≡ (if (gone_on core found).lost then Some NoMemory else None)
 later_why core found s o a =
     let g = went_if (is_waiting core) core found in
-    ap (λ v. why_of v (gone_on core found).lost (is_over (gone_on core found) && is_some (gone_on core found).peer) (gone_on core found).answered) (g.shut ∙ s)
+    ap (λ v. why_of v (gone_on core found).lost (is_stopping (gone_on core found) && is_some (gone_on core found).peer) (gone_on core found).answered) (g.shut ∙ s)
     ∙ (ap (λ v. why_of false (gone_on core found).lost v (gone_on core found).answered) (g.over ∙ o)
     ∙ (ap (λ v. why_of false (gone_on core found).lost false v) (g.answered ∙ a) ∙ by_lost (gone_on core found).lost))
   where
@@ -141,7 +141,7 @@ pub record Answered (mid a : Core) : Type 0 where
   pub begun : a.child.begun ≡ mid.child.begun
   pub answered : mid.shut ≡ false → a.lost ≡ false → a.answered ≡ (is_some_text (due_answer mid) || mid.answered)
 
-answered_if : (w : Bool) (core : Core) → is_open core ≡ w → Answered core (handled (if w then record core { answered = is_some_text (due_answer core) || core.answered } else core))
+answered_if : (w : Bool) (core : Core) → may_answer core ≡ w → Answered core (handled (if w then record core { answered = is_some_text (due_answer core) || core.answered } else core))
 unfolding handled
 answered_if true core o = record { shut = refl; stopped = refl; unbuilt = refl; peer = refl; asked = refl; request = refl; begun = refl; answered = λ s l. refl }
 answered_if false core o = record {
@@ -152,12 +152,12 @@ answered_if false core o = record {
   asked = refl;
   request = refl;
   begun = refl;
-  answered = λ s l. absurd (let f : is_open core ≡ true = rw (s, l) refl in cc);
+  answered = λ s l. absurd (let f : may_answer core ≡ true = rw (s, l) refl in cc);
 }
 
 pub handled_answered : (mid : Core) (found : Bool) → Answered mid (handled (answered mid found))
 unfolding handled
-handled_answered mid true = answered_if (is_open mid) mid refl
+handled_answered mid true = answered_if (may_answer mid) mid refl
 handled_answered mid false = record {
   shut = refl;
   stopped = refl;
@@ -172,7 +172,7 @@ handled_answered mid false = record {
 -- ---- small facts
 
 due_none : (core : Core) → core.shut ≡ true → due_why core ≡ None
-due_none core e = nothing_due core.shut core.lost (is_over core && is_some core.peer) core.answered e
+due_none core e = nothing_due core.shut core.lost (is_stopping core && is_some core.peer) core.answered e
 
 pub second_none : (core : Core) (found : Bool) → core.shut ≡ true → due_why (gone_on core found) ≡ None
 second_none core found e = ap due_why (gone-same core found e) ∙ due_none core e
@@ -211,7 +211,7 @@ unlost_why false false false = refl
 
 no_memory_why : (core : Core) → core.lost ≡ false → is_memory (due_why core) ≡ false
 no_memory_why core e =
-    ap (λ l. is_memory (why_of core.shut l (is_over core && is_some core.peer) core.answered)) e ∙ unlost_why core.shut (is_over core && is_some core.peer) core.answered
+    ap (λ l. is_memory (why_of core.shut l (is_stopping core && is_some core.peer) core.answered)) e ∙ unlost_why core.shut (is_stopping core && is_some core.peer) core.answered
 
 any_append_acts : (p : Act → Bool) (a b : List Act) → list_any p (a ++ b) ≡ (list_any p a || list_any p b)
 any_append_acts p [] b = refl
@@ -277,7 +277,7 @@ waits_more core found w e = ap (λ v. if v then gone_on_by core (asks core) foun
 stays_open : (core : Core) (found : Bool) → is_closed core ≡ true → is_waiting core ≡ true → is_unfinished (asks core) ≡ true → (closed (gone_on core found)).shut ≡ false
 stays_open core found c w e =
     let s = (waiting_open core.shut (not (is_some core.peer)) core.child.begun w).0 in
-    let why : due_why core ≡ None = none_why core.shut core.lost (is_over core && is_some core.peer) core.answered c s in
+    let why : due_why core ≡ None = none_why core.shut core.lost (is_stopping core && is_some core.peer) core.answered c s in
     ap (λ (d : Core). (closed d).shut) (waits_more core found w e) ∙ (ap (λ v. (closed_by (record core { asked = true }) v).shut) why ∙ s)
 
 begun_stays : (w : Bool) (core : Core) (found : Bool) → is_unfinished (asks core) ≡ true → (if w then gone_on_by core (asks core) found else core).child.begun ≡ core.child.begun
@@ -342,7 +342,7 @@ module _ (site : Site) (mid : Core) (T : List Item) (ev : Event) (found begun : 
 
   -- ---- Shut
 
-  over_is : (is_over h && is_some h.peer) ≡ mid.stopped
+  over_is : (is_stopping h && is_some h.peer) ≡ mid.stopped
   over_is =
       let a = handled_answered mid found in
       ap (λ v. (v || h.unbuilt) && is_some h.peer) a.stopped
@@ -383,8 +383,8 @@ module _ (site : Site) (mid : Core) (T : List Item) (ev : Event) (found begun : 
   why_h : mid.shut ≡ false → (l r : Bool) → h.lost ≡ l → h.answered ≡ r →
       due_why h ≡ why_of false l mid.stopped r
   why_h s l r p q =
-      ap (λ v. why_of v h.lost (is_over h && is_some h.peer) h.answered) ((handled_answered mid found).shut ∙ s)
-      ∙ (ap (λ v. why_of false v (is_over h && is_some h.peer) h.answered) p ∙ (ap (λ v. why_of false l v h.answered) over_is ∙ ap (why_of false l mid.stopped) q))
+      ap (λ v. why_of v h.lost (is_stopping h && is_some h.peer) h.answered) ((handled_answered mid found).shut ∙ s)
+      ∙ (ap (λ v. why_of false v (is_stopping h && is_some h.peer) h.answered) p ∙ (ap (λ v. why_of false l v h.answered) over_is ∙ ap (why_of false l mid.stopped) q))
 
   no_reason_yet : mid.stopped ≡ false → is_some_text (due_answer mid) ≡ false → (if mid.stopped then Some Stopped else (if is_some_text (due_answer mid) then Some Done else None)) ≡ None
   no_reason_yet o r = ap (λ v. if v then Some Stopped else (if is_some_text (due_answer mid) then Some Done else None)) o ∙ ap (λ v. if v then Some Done else None) r
@@ -484,7 +484,7 @@ module _ (site : Site) (mid : Core) (T : List Item) (ev : Event) (found begun : 
           (ap is_memory (second_none (closed h) begun (ap (λ (c : Core). c.shut) (closed-shut h s) ∙ s)))
       by_shut false e =
           let q = quiet t e in
-          let no_found : (found ≡ false → ⊥) = λ z. let d = (and_parts (is_open mid) (is_some_text (due_answer mid)) (f z)).1 in let d' = q.none_due in absurd (cc) in
+          let no_found : (found ≡ false → ⊥) = λ z. let d = (and_parts (may_answer mid) (is_some_text (due_answer mid)) (f z)).1 in let d' = q.none_due in absurd (cc) in
           let l : h.lost ≡ false = found_true found no_found ∙ (handled_lost mid ∙ q.lost) in
           let ld : (closed h).lost ≡ false = (lost_closed h (due_why h)).0 ∙ l in
           let no_begun : (begun ≡ false → ⊥) = λ z. no_script (closed h) (f' z) (ap (λ r. is_unfinished (asked r.site r.bytes)) (request_d)) (begun_d) q.waits in
@@ -520,7 +520,7 @@ module _ (site : Site) (mid : Core) (T : List Item) (ev : Event) (found begun : 
       (and_parts (is_known U 0) (not (shut U 0)) e).1
 
   unlost_end : last.shut ≡ false → last.lost ≡ false
-  unlost_end e = closed_lost last.shut last.lost (is_over last && is_some last.peer) last.answered cl e
+  unlost_end e = closed_lost last.shut last.lost (is_stopping last && is_some last.peer) last.answered cl e
 
   asks_end : last.shut ≡ false → asked site (client_in U 0) ≡ asks last
   asks_end e =
@@ -548,8 +548,8 @@ module _ (site : Site) (mid : Core) (T : List Item) (ev : Event) (found begun : 
   stops : stopped U ≡ true → shut U 0 ≡ true
   stops t =
       let p : is_some last.peer ≡ true = known_peer last U n.peer known in
-      let o : (is_over last && is_some last.peer) ≡ true = rw (n.stopped, t, p) refl in
-      sym n.shut ∙ over_shut last.shut last.lost (is_over last && is_some last.peer) last.answered cl o
+      let o : (is_stopping last && is_some last.peer) ≡ true = rw (n.stopped, t, p) refl in
+      sym n.shut ∙ over_shut last.shut last.lost (is_stopping last && is_some last.peer) last.answered cl o
     where
       over_shut : (s l x r : Bool) → (s || not (l || x || r)) ≡ true → x ≡ true → s ≡ true
       over_shut s l x r c e = grind (arith, common_steps)

@@ -15,8 +15,8 @@ use Rattle.host_trace.specs.Kinds.{is_start, output_heard, is_child_bytes}
 use Rattle.host_trace.specs.Projections.{child_out}
 use Rattle.host_trace.specs.Decider.{Outcome as ModelOutcome, derived, unanswered, decides as decides_by, decider, outcome, outcome_by as outcome_by_item, passes_output}
 use Rattle.host_core.specs.Built.{IsBuilt, is_built_item}
-use Rattle.host_core.specs.declared.child.Outcome.{Outcome}
-use Rattle.host_core.specs.declared.child.Outcome.TheVariants.{Undecided, Output, Dropped}
+use Rattle.host_core.specs.declared.child.Decision.{Decision}
+use Rattle.host_core.specs.declared.child.Decision.TheVariants.{Undecided, Output, Dropped}
 use Rattle.host_core.specs.Knows.{decides, outcome_by, outcome_of}
 use Rattle.std.proofs.Math.Bool.{or-false}
 
@@ -95,7 +95,7 @@ decider-built limits T b =
 -- ---- the outcome
 
 -- what the core's word says in the model's
-abbrev pub outcome_said : Outcome → Option ModelOutcome
+abbrev pub outcome_said : Decision → Option ModelOutcome
 outcome_said Undecided = None
 outcome_said Output = Some derived
 outcome_said Dropped = Some unanswered

@@ -19,14 +19,14 @@ use Rattle.host_trace.specs.Told.{when}
 use Rattle.host_trace.specs.Trace.{step_of, after_step}
 use Rattle.first_path.specs.declared.asked.Asked.{Asked}
 use Rattle.first_path.specs.declared.asked.Asked.TheVariants.{More, Refused, Script}
-use Rattle.host_core.specs.declared.child.Outcome.{Outcome}
-use Rattle.host_core.specs.declared.child.Outcome.TheVariants.{Undecided, Output, Dropped}
+use Rattle.host_core.specs.declared.child.Decision.{Decision}
+use Rattle.host_core.specs.declared.child.Decision.TheVariants.{Undecided, Output, Dropped}
 use Rattle.host_core.specs.declared.machine.Core.{Core}
 use Rattle.host_core.specs.Answer.{is_unfinished}
 use Rattle.host_core.specs.Ends.{Ends, is_ending, is_ending_why}
 use Rattle.host_core.specs.Knows.{Knows, Notes, noted, is_unbuilt}
 use Rattle.host_core.specs.Stands.{Stands, calm_by, alone, alone_by, is_closed}
-use Rattle.host_core.specs.Due.{asks, is_undecided, is_dropped, is_waiting, gone_on_by, going_by, is_over, is_open, is_answer_due, is_input_due, is_kill_due, is_release_due, is_ask_due, input_given, kill_given, release_given, handled, handling, due_why, why_of, closed, closed_by, shuts, answered, answering, answer_by, due_answer, is_some_text, writes, gone_on, going_on, acted, acts_of}
+use Rattle.host_core.specs.Due.{asks, is_undecided, is_dropped, is_waiting, gone_on_by, going_by, is_stopping, may_answer, is_answer_due, is_input_due, is_kill_due, is_release_due, is_ask_due, input_given, kill_given, release_given, handled, handling, due_why, why_of, closed, closed_by, shuts, answered, answering, answer_by, due_answer, is_some_text, writes, gone_on, going_on, acted, acts_of}
 use Rattle.host_core.proofs.KnowsLaws.{eof_new}
 use Rattle.host_core.proofs.ConnectionLaws.{second_none, known_peer, handled_answered}
 use Rattle.host_core.proofs.FormLaws.{going_none}
@@ -65,13 +65,13 @@ silent core T limit (ClientBytes c bytes) s fit e u =
     over_closed core.shut core.lost core.stopped core.unbuilt (is_some core.peer) core.answered s.closed e u p)
 silent core T limit _ s fit e u = refl
 
-not_output : (b : Bool) (o : Outcome) (request : Asked) (output : List ℕ) → is_some_text (answer_by b o request output) ≡ false → b ≡ true → o ≡ Output → ⊥
+not_output : (b : Bool) (o : Decision) (request : Asked) (output : List ℕ) → is_some_text (answer_by b o request output) ≡ false → b ≡ true → o ≡ Output → ⊥
 not_output true Output request output d e f = absurd (cc)
 not_output true Undecided request output d e f = absurd (cc)
 not_output true Dropped request output d e f = absurd (cc)
 not_output false o request output d e f = absurd (cc)
 
-none_given : (b : Bool) (o : Outcome) (request : Asked) (output : List ℕ) → (b ≡ true → o ≡ Output → ⊥) → (b ≡ false → is_unfinished request ≡ true) →
+none_given : (b : Bool) (o : Decision) (request : Asked) (output : List ℕ) → (b ≡ true → o ≡ Output → ⊥) → (b ≡ false → is_unfinished request ≡ true) →
     is_some_text (answer_by b o request output) ≡ false
 none_given true Output request output f g = absurd (f refl refl)
 none_given true Undecided request output f g = refl
@@ -84,7 +84,7 @@ built_eof : (core : Core) (ev : Event) → is_child_eof 0 (In ev) ≡ true → (
 built_eof core (ChildEof k) e u = u
 built_eof core _ e u = absurd (cc)
 
-calm_over : (s r t u : Bool) (o : Outcome) → calm_by (s || r || (t || u)) true (is_undecided o) ≡ true → u ≡ true → o ≡ Undecided → ⊥
+calm_over : (s r t u : Bool) (o : Decision) → calm_by (s || r || (t || u)) true (is_undecided o) ≡ true → u ≡ true → o ≡ Undecided → ⊥
 calm_over s r t u o h e f =
     absurd (let g : is_undecided o ≡ true = ap is_undecided f in let i : calm_by (s || r || (t || u)) true (is_undecided o) ≡ false = rw (e, g) (grind (arith, common_steps)) in cc)
 
@@ -115,7 +115,7 @@ over_due core mid T limit ev s fit n u = by_open mid.shut mid.lost refl refl
         let cs : core.shut ≡ false = sym (notes_shut core mid ev n) ∙ e in
         let v : (is_unbuilt core (In ev) || core.unbuilt) ≡ true = ap (λ (c : Core). c.unbuilt) (sym same) ∙ u in
         let d : is_some_text (due_answer mid) ≡ false = ap (λ c. is_some_text (due_answer c)) same ∙ over_noted core T limit ev s fit cs v in
-        rw d (and-false (is_open mid))
+        rw d (and-false (may_answer mid))
 
 -- ---- the acts
 
@@ -135,15 +135,15 @@ writes_none None e = refl
 writes_none (Some text) e = absurd (cc)
 
 no_answer : (mid : Core) (found : Bool) → is_answer_due mid ≡ false → answering mid found ≡ []
-no_answer mid true e = by_open (is_open mid) (is_some_text (due_answer mid)) refl e
+no_answer mid true e = by_open (may_answer mid) (is_some_text (due_answer mid)) refl e
   where
     by_open : (w d : Bool) → is_some_text (due_answer mid) ≡ d → (w && d) ≡ false → (if w then writes (due_answer mid) else []) ≡ []
     by_open true d f e = writes_none (due_answer mid) (f ∙ e)
     by_open false d f e = refl
 no_answer mid false e = refl
 
-no_ask : (core : Core) → is_over core ≡ true → is_ask_due core ≡ false
-no_ask core e = none core.child.started (not core.child.output_ended && not core.child.killed && not core.lost) (is_over core) (is_undecided core.child.outcome) (not core.child.asked) e
+no_ask : (core : Core) → is_stopping core ≡ true → is_ask_due core ≡ false
+no_ask core e = none core.child.started (not core.child.output_ended && not core.child.killed && not core.lost) (is_stopping core) (is_undecided core.child.outcome) (not core.child.asked) e
   where
     none : (a b o c d : Bool) → o ≡ true → (a && (b && not o) && c && d) ≡ false
     none a b false c d e = absurd (cc)
@@ -151,7 +151,7 @@ no_ask core e = none core.child.started (not core.child.output_ended && not core
     none true false true c d e = refl
     none false b true c d e = refl
 
-ending-handling : (a : Core) → is_over a ≡ true → list_all is_ending (handling a) ≡ true
+ending-handling : (a : Core) → is_stopping a ≡ true → list_all is_ending (handling a) ≡ true
 unfolding handling
 ending-handling a o =
     let i = when (is_input_due a) (EndInput 0) in
@@ -184,19 +184,19 @@ none_here false false false true r s m h e = absurd (cc)
 none_here false false false false true s m h e = absurd (cc)
 none_here false false false false false s m h e = (refl, refl)
 
-ends_why : (h : Core) (why : Why) → alone h ≡ true → is_over h ≡ true → due_why h ≡ Some why → is_ending_why why ≡ true
+ends_why : (h : Core) (why : Why) → alone h ≡ true → is_stopping h ≡ true → due_why h ≡ Some why → is_ending_why why ≡ true
 ends_why h why al o e =
     why_ends h.shut h.lost (is_some h.peer) h.answered why (none_here (is_some h.peer) h.asked h.child.begun h.lost h.answered h.shut (is_unfinished (asks h)) al)
     (ap (λ v. why_of h.shut h.lost (v && is_some h.peer) h.answered) (sym o) ∙ e)
 
 -- one that is over with its client is shut; one without a client waits for nobody
-over_going : (h : Core) (begun b : Bool) → (closed h).shut ≡ b → is_over h ≡ true → (going_on (closed h) begun ≡ []) × (due_why (gone_on (closed h) begun) ≡ None)
+over_going : (h : Core) (begun b : Bool) → (closed h).shut ≡ b → is_stopping h ≡ true → (going_on (closed h) begun ≡ []) × (due_why (gone_on (closed h) begun) ≡ None)
 over_going h begun true e o = (going_none (closed h) begun e, second_none (closed h) begun e)
 over_going h begun false e o =
     let w = no_reason h (due_why h) e in
     let c : closed h ≡ h = ap (closed_by h) w in
     let s = shut_before h e in
-    let q = no_why_parts h.shut h.lost (is_over h && is_some h.peer) h.answered w s in
+    let q = no_why_parts h.shut h.lost (is_stopping h && is_some h.peer) h.answered w s in
     let p : is_some h.peer ≡ false = ap (λ v. v && is_some h.peer) (sym o) ∙ q.1 in
     let n : is_waiting h ≡ false = ap (λ v. not (h.shut || not v || h.child.begun)) p ∙ no_peer h.shut h.child.begun in (
       ap (λ (d : Core). going_on d begun) c ∙ ap (λ w. if w then going_by h (asks h) begun else []) n,
@@ -220,7 +220,7 @@ over_going h begun false e o =
         by_why (Some Full) e = absurd (cc)
         by_why (Some Stopped) e = absurd (cc)
 
-over_handled : (mid : Core) (found : Bool) → mid.unbuilt ≡ true → (is_over (answered mid found) ≡ true) × (is_over (handled (answered mid found)) ≡ true)
+over_handled : (mid : Core) (found : Bool) → mid.unbuilt ≡ true → (is_stopping (answered mid found) ≡ true) × (is_stopping (handled (answered mid found)) ≡ true)
 over_handled mid found u =
     let a = keeps-answered mid found in
     let h = handled_answered mid found in (
@@ -258,7 +258,7 @@ ends mid T ev found begun x d al u n cl =
           sym n.shut ∙ by_closed last.shut last.lost last.stopped last.unbuilt (is_some last.peer) last.answered cl (k.unbuilt ∙ u) p;
       killed_or_gone = λ st.
           let e : is_kill_due (answered mid found) ≡ (mid.child.started && not mid.child.exited && not mid.child.killed) =
-          ap (λ c. c.started && ((answered mid found).lost || is_over (answered mid found) || is_dropped c.outcome) && not c.exited && not c.killed) (child-answered mid found)
+          ap (λ c. c.started && ((answered mid found).lost || is_stopping (answered mid found) || is_dropped c.outcome) && not c.exited && not c.killed) (child-answered mid found)
           ∙ (ap (λ v. mid.child.started && ((answered mid found).lost || v || is_dropped mid.child.outcome) && not mid.child.exited && not mid.child.killed) (over_handled mid found u).0
           ∙ kill_over mid.child.started (answered mid found).lost (is_dropped mid.child.outcome) (not mid.child.exited) (not mid.child.killed)) in
           let kd : last.child.killed ≡ ((mid.child.started && not mid.child.exited && not mid.child.killed) || mid.child.killed) =
@@ -266,7 +266,7 @@ ends mid T ev found begun x d al u n cl =
           rw (← n.child.killed, kd, ← n.child.exited, k.exited) (gone mid.child.started mid.child.exited mid.child.killed (sym k.started ∙ (n.child.started ∙ st)));
       settled_then = λ ex.
           let e : is_release_due (answered mid found) ≡ (mid.child.exited && not mid.child.output_ended) =
-          ap (λ c. c.exited && ((answered mid found).lost || is_over (answered mid found) || is_dropped c.outcome) && not c.output_ended) (child-answered mid found)
+          ap (λ c. c.exited && ((answered mid found).lost || is_stopping (answered mid found) || is_dropped c.outcome) && not c.output_ended) (child-answered mid found)
           ∙ (ap (λ v. mid.child.exited && ((answered mid found).lost || v || is_dropped mid.child.outcome) && not mid.child.output_ended) (over_handled mid found u).0
           ∙ release_over mid.child.exited (answered mid found).lost (is_dropped mid.child.outcome) (not mid.child.output_ended)) in
           let o : last.child.output_ended ≡ ((mid.child.exited && not mid.child.output_ended) || mid.child.output_ended) =

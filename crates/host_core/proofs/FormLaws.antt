@@ -22,7 +22,7 @@ use Rattle.host_core.specs.Acts.{AllActs}
 use Rattle.host_core.specs.Form.{may_come, Comes, rank, is_ordered}
 use Rattle.host_core.specs.Knows.{Knows}
 use Rattle.host_core.specs.Stands.{alone, is_closed}
-use Rattle.host_core.specs.Due.{asks, is_over, is_open, is_answer_due, is_input_due, is_kill_due, is_release_due, is_ask_due, input_given, kill_given, release_given, handled, handling, due_why, why_of, closed, shuts, answered, answering, due_answer, is_some_text, text_by, writes, gone_on, gone_on_by, begun_by, going_on, going_by, launch_by, starts, is_waiting, acts_of}
+use Rattle.host_core.specs.Due.{asks, is_stopping, may_answer, is_answer_due, is_input_due, is_kill_due, is_release_due, is_ask_due, input_given, kill_given, release_given, handled, handling, due_why, why_of, closed, shuts, answered, answering, due_answer, is_some_text, text_by, writes, gone_on, gone_on_by, begun_by, going_on, going_by, launch_by, starts, is_waiting, acts_of}
 use Rattle.host_core.proofs.KnowsLaws.{peer_count}
 use Rattle.host_core.proofs.ActsLaws.{append_map, Knows-answered, Knows-handled, Knows-closed, Knows-gone_on, Knows-end_input, Knows-kill, Knows-release, waiting_open}
 use Rattle.host_core.proofs.CalmLaws.{closed-closed}
@@ -60,9 +60,9 @@ come-write core V None k s p e = tt
 come-write core V (Some text) k s p e = (rw (open_now core V k (p refl) s, no_upgrade V 0 k.first, e) refl, tt)
 
 come-answering : (core : Core) (V : List Item) (found : Bool) → Knows core V → alone core ≡ true → AllActs Comes V (answering core found)
-come-answering core V true k a = by_open (is_open core) refl
+come-answering core V true k a = by_open (may_answer core) refl
   where
-    by_open : (b : Bool) → is_open core ≡ b → AllActs Comes V (if b then writes (due_answer core) else [])
+    by_open : (b : Bool) → may_answer core ≡ b → AllActs Comes V (if b then writes (due_answer core) else [])
     by_open true o =
         come-write core V (due_answer core) k (or_parts core.shut core.lost (not-true (core.shut || core.lost) o)).0 (due_peer core a)
         (due_some core.child.begun core.child.outcome (asks core) core.child.output)
@@ -93,7 +93,7 @@ ask_parts s e a b c u w h = grind (arith, common_steps)
 come-ask : (core : Core) (V : List Item) → Knows core V → is_ask_due core ≡ true → may_come V (WantChild 0) ≡ true
 come-ask core V k d =
     rw (← k.child.started, ← k.child.output_ended, wanted_child core V k)
-    (ask_parts core.child.started core.child.output_ended core.child.killed core.lost (is_over core) _ core.child.asked d)
+    (ask_parts core.child.started core.child.output_ended core.child.killed core.lost (is_stopping core) _ core.child.asked d)
 
 come-handling : (a : Core) (V : List Item) → Knows a V → AllActs Comes V (handling a)
 unfolding handling
@@ -116,7 +116,7 @@ come-handling a V k =
 
 come-shuts : (core : Core) (V : List Item) (why : Option Why) → due_why core ≡ why → Knows core V → alone core ≡ true → AllActs Comes V (shuts why)
 come-shuts core V None e k a = tt
-come-shuts core V (Some why) e k a = (open_now core V k (shut_peer core why a e) (not_shut core.shut core.lost (is_over core && is_some core.peer) core.answered why e), tt)
+come-shuts core V (Some why) e k a = (open_now core V k (shut_peer core why a e) (not_shut core.shut core.lost (is_stopping core && is_some core.peer) core.answered why e), tt)
   where
     not_shut : (s l t r : Bool) (why : Why) → why_of s l t r ≡ Some why → s ≡ false
     not_shut true l t r why e = absurd (cc)
@@ -229,7 +229,7 @@ placed_when low high false act f g =
     placed_none low high (omega arith)
 
 placed_answering : (core : Core) (found : Bool) → Placed 0 5 (answering core found)
-placed_answering core true = by_open (is_open core)
+placed_answering core true = by_open (may_answer core)
   where
     by_text : (text : Option (List ℕ)) → Placed 0 5 (writes text)
     by_text None = placed_none 0 5 (lit≤ tt)
@@ -285,7 +285,7 @@ placed_end h begun true e =
 placed_end h begun false e =
     let w = no_reason h (due_why h) e in
     let c = closed-closed h in
-    let d : due_why (closed h) ≡ None = none_why (closed h).shut (closed h).lost (is_over (closed h) && is_some (closed h).peer) (closed h).answered c e in
+    let d : due_why (closed h) ≡ None = none_why (closed h).shut (closed h).lost (is_stopping (closed h) && is_some (closed h).peer) (closed h).answered c e in
     subst (λ v. Placed 9 11 (shuts v ++ (going_on (closed h) begun ++ shuts (due_why (gone_on (closed h) begun))))) (sym w)
     (placed_gone (is_waiting (closed h)) (closed h) begun d)
 

@@ -13,8 +13,8 @@ use Rattle.host_trace.specs.Projections.{shut, client_out, child_in, client_want
 use Rattle.host_trace.specs.Fits.{fits, is_asked, is_asked_upgraded, is_start_open, is_output_asked, is_piece, may_leave, may_take}
 use Rattle.first_path.specs.declared.asked.Asked.{Asked}
 use Rattle.first_path.specs.FirstRequest.{asked}
-use Rattle.host_core.specs.declared.child.Outcome.{Outcome}
-use Rattle.host_core.specs.declared.child.Outcome.TheVariants.{Undecided, Output, Dropped}
+use Rattle.host_core.specs.declared.child.Decision.{Decision}
+use Rattle.host_core.specs.declared.child.Decision.TheVariants.{Undecided, Output, Dropped}
 use Rattle.host_core.specs.declared.machine.Core.{Core}
 use Rattle.host_core.specs.Built.{is_built_item}
 use Rattle.host_core.specs.Answer.{is_unfinished}
@@ -22,7 +22,7 @@ use Rattle.host_base.specs.declared.launch.Peer.{Peer}
 use Rattle.host_trace.specs.Account.{is_refusal}
 use Rattle.host_core.specs.Connections.{takes_none}
 use Rattle.host_core.specs.Knows.{Knows, Admits, Once, is_first, is_kept, with_peer, passes, StartsNone, Notes, noted, one_if, outcome_by, decided, decides, is_unbuilt, asked_by, more_unless}
-use Rattle.host_core.specs.Due.{asks, is_over, is_undecided, is_dropped, is_some_text, due_answer, answer_by}
+use Rattle.host_core.specs.Due.{asks, is_stopping, is_undecided, is_dropped, is_some_text, due_answer, answer_by}
 use Rattle.host_core.specs.Stands.{Stands, calm, calm_by, is_output, ended, is_closed, apt, apt_by, born, born_by, fed, fresh, doomed, alone, alone_by, idle}
 use Rattle.host_core.proofs.KnowsLaws.{Knows-noted, peel}
 use Rattle.host_core.proofs.OnlyLaws.{no_want, no_upgrade, no_start, not_started, not_written, not_fed}
@@ -221,7 +221,7 @@ once_eof core T limit (ChildEof k) n fit e =
     n.child.output_ended ∙ (output_parts T 0 f).0
 once_eof core T limit _ n fit e = absurd (cc)
 
-calm_open : (s r t u b : Bool) (o : Outcome) → calm_by (s || r || (t || u)) b (is_undecided o) ≡ true → b ≡ true → o ≡ Undecided → (t || s) ≡ false
+calm_open : (s r t u b : Bool) (o : Decision) → calm_by (s || r || (t || u)) b (is_undecided o) ≡ true → b ≡ true → o ≡ Undecided → (t || s) ≡ false
 calm_open s r t u b o h e f = let g : is_undecided o ≡ true = ap is_undecided f in grind (arith, common_steps)
 
 once : (core : Core) (T : List Item) (limit : ℕ) (ev : Event) → Knows core T → calm core ≡ true → is_closed core ≡ true → fits limit T ev ≡ true → Once core (In ev)
@@ -270,7 +270,7 @@ by_output false e eof f = refl
 keeps_or : (q e eof : Bool) → (not q || eof) ≡ true → (not q || (e || eof)) ≡ true
 keeps_or q e eof h = grind (arith, common_steps)
 
-ended-noted : (d e eof b : Bool) (o now : Outcome) → (d ≡ true → is_output now ≡ true → e ≡ true) → (not (is_output o) || eof) ≡ true →
+ended-noted : (d e eof b : Bool) (o now : Decision) → (d ≡ true → is_output now ≡ true → e ≡ true) → (not (is_output o) || eof) ≡ true →
     (not (is_output (if d then decided b o now else o)) || (e || eof)) ≡ true
 ended-noted true e eof true Undecided now f h = by_output (is_output now) e eof (f refl)
 ended-noted true e eof true Output now f h = rw h (or-true e)
@@ -375,7 +375,7 @@ fed_noted core ev o h g =
     fed_event core.child.begun (is_started 0 (In ev)) core.child.started core.child.refused (is_exited 0 (In ev)) core.child.exited (is_input_end 0 (In ev)) core.child.input_ended
     (λ e. (o.answers (start_answers ev e)).1) (λ e. (o.exits e).0) h g
 
-fresh_event : (w b : Bool) (o now : Outcome) → (b || is_undecided o) ≡ true → (b || is_undecided (if w then decided b o now else o)) ≡ true
+fresh_event : (w b : Bool) (o now : Decision) → (b || is_undecided o) ≡ true → (b || is_undecided (if w then decided b o now else o)) ≡ true
 fresh_event w true o now h = refl
 fresh_event true false o now h = h
 fresh_event false false o now h = h
@@ -383,7 +383,7 @@ fresh_event false false o now h = h
 fresh_noted : (core : Core) (ev : Event) → fresh core ≡ true → fresh (noted core (In ev)) ≡ true
 fresh_noted core ev h = fresh_event (is_unbuilt core (In ev) || decides (In ev)) core.child.begun core.child.outcome (outcome_by (Some (In ev))) h
 
-dropped_still : (w b : Bool) (o now : Outcome) → is_dropped o ≡ true → is_dropped (if w then decided b o now else o) ≡ true
+dropped_still : (w b : Bool) (o now : Decision) → is_dropped o ≡ true → is_dropped (if w then decided b o now else o) ≡ true
 dropped_still true true Dropped now e = refl
 dropped_still true true Undecided now e = absurd (cc)
 dropped_still true true Output now e = absurd (cc)
@@ -394,12 +394,12 @@ over_more : (s t u v : Bool) → ((s || t) || (v || u)) ≡ ((s || v) || (t || u
 over_more s t u v = grind (arith, common_steps)
 
 doomed_noted : (core : Core) (ev : Event) (lost : Bool) → (core.lost ≡ true → lost ≡ true) → doomed core ≡ true →
-    (not core.child.killed || (lost || is_over (noted core (In ev)) || is_dropped (noted core (In ev)).child.outcome)) ≡ true
+    (not core.child.killed || (lost || is_stopping (noted core (In ev)) || is_dropped (noted core (In ev)).child.outcome)) ≡ true
 doomed_noted core ev lost f h =
     let w = is_unbuilt core (In ev) || decides (In ev) in
     let g = dropped_still w core.child.begun core.child.outcome (outcome_by (Some (In ev))) in
     rw (over_more (is_stop (In ev)) core.stopped core.unbuilt (is_unbuilt core (In ev)))
-    (doom_lost core.child.killed core.lost lost (is_stop (In ev) || is_unbuilt core (In ev)) (is_over core) (is_dropped core.child.outcome)
+    (doom_lost core.child.killed core.lost lost (is_stop (In ev) || is_unbuilt core (In ev)) (is_stopping core) (is_dropped core.child.outcome)
     (is_dropped (if w then decided core.child.begun core.child.outcome (outcome_by (Some (In ev))) else core.child.outcome)) f g h)
   where
     doom_lost : (k l l' st t d sd : Bool) → (l ≡ true → l' ≡ true) → (d ≡ true → sd ≡ true) → (not k || (l || t || d)) ≡ true → (not k || (l' || (st || t) || sd)) ≡ true
@@ -498,7 +498,7 @@ alone-heard core mid T limit ev s fit n = alone-by (is_some core.peer) core mid 
 
 -- ---- an event after which nothing is due
 
-none_new : (w b : Bool) (o : Outcome) (request : Asked) (output : List ℕ) → is_some_text (answer_by b o request output) ≡ false →
+none_new : (w b : Bool) (o : Decision) (request : Asked) (output : List ℕ) → is_some_text (answer_by b o request output) ≡ false →
     is_some_text (answer_by b (if w then decided b o Dropped else o) request output) ≡ false
 none_new false b o request output e = e
 none_new true true Undecided request output e = refl
@@ -541,7 +541,7 @@ quiet_noted : (core : Core) (ev : Event) → idle core ≡ true → is_closed co
 quiet_noted core ev i d t e =
     let p = idle_parts core.shut (is_some_text (due_answer core)) (is_unfinished (asks core)) core.child.begun i e in
     record {
-      lost = closed_lost core.shut core.lost (is_over core && is_some core.peer) core.answered d e;
+      lost = closed_lost core.shut core.lost (is_stopping core && is_some core.peer) core.answered d e;
       none_due =
           rw (no_client_bytes ev t, no_output_bytes ev t, drops ev t)
           (none_new (not (is_built_item (In ev)) || is_accepted (In ev) && is_some core.peer || passes core.site.now.limits.output [] core.child.output_len || decides (In ev)) core.child.begun core.child.outcome (asks core) core.child.output p.0);

@@ -11,12 +11,12 @@ use Rattle.first_path.specs.declared.asked.Asked.{Asked}
 use Rattle.first_path.specs.declared.asked.Asked.TheVariants.{More, Refused, Script}
 use Rattle.first_path.specs.FirstRequest.{asked}
 use Rattle.first_path.proofs.ScriptLaws.{scripts_have_launches}
-use Rattle.host_core.specs.declared.child.Outcome.{Outcome}
-use Rattle.host_core.specs.declared.child.Outcome.TheVariants.{Undecided, Output, Dropped}
+use Rattle.host_core.specs.declared.child.Decision.{Decision}
+use Rattle.host_core.specs.declared.child.Decision.TheVariants.{Undecided, Output, Dropped}
 use Rattle.host_core.specs.declared.machine.Core.{Core}
 use Rattle.host_core.specs.Answer.{is_unfinished, launch_for}
 use Rattle.host_core.specs.Stands.{fresh, alone, alone_by, idle}
-use Rattle.host_core.specs.Due.{asks, is_undecided, is_over, handled, closed, closed_by, due_why, why_of, gone_on, gone_on_by, is_waiting, answered, answer_by, due_answer, acted, is_open, is_answer_due, is_some_text, launch_by, begun_by}
+use Rattle.host_core.specs.Due.{asks, is_undecided, is_stopping, handled, closed, closed_by, due_why, why_of, gone_on, gone_on_by, is_waiting, answered, answer_by, due_answer, acted, may_answer, is_answer_due, is_some_text, launch_by, begun_by}
 use Rattle.host_core.proofs.ActsLaws.{waiting_open}
 use Rattle.host_core.proofs.SoundLaws.{answered-shut, answered-lost, keeps-before, alone-before, fresh-before, some_of_waiting}
 use Rattle.std.proofs.Math.Bool.{or-true}
@@ -39,7 +39,7 @@ pub record Open (mid : Core) (found begun : Bool) : Type 0 where
   pub answered_not : mid.answered ≡ false
   pub none_due : is_some_text (due_answer mid) ≡ false
   pub end_lost : (gone_on (handled (answered mid found)) begun).lost ≡ false
-  pub running : (is_over mid && is_some mid.peer) ≡ false
+  pub running : (is_stopping mid && is_some mid.peer) ≡ false
 
 pub no_reason : (core : Core) (why : Option Why) → (closed_by core why).shut ≡ false → why ≡ None
 no_reason core None e = refl
@@ -72,14 +72,14 @@ pub record Unclosed (core : Core) : Type 0 where
   pub same : closed core ≡ core
   pub shut : core.shut ≡ false
   pub lost : core.lost ≡ false
-  pub over : (is_over core && is_some core.peer) ≡ false
+  pub over : (is_stopping core && is_some core.peer) ≡ false
   pub answered : core.answered ≡ false
 
 unclosed : (core : Core) → (closed core).shut ≡ false → Unclosed core
 unclosed core e =
     let w = no_reason core (due_why core) e in
     let s = shut_before core (due_why core) e in
-    let p = no_why_parts core.shut core.lost (is_over core && is_some core.peer) core.answered w s in
+    let p = no_why_parts core.shut core.lost (is_stopping core && is_some core.peer) core.answered w s in
     record { same = ap (closed_by core) w; shut = s; lost = p.0; over = p.1; answered = p.2 }
 
 gone-shut : (w : Bool) (core : Core) (found : Bool) → (if w then gone_on_by core (asks core) found else core).shut ≡ core.shut
@@ -111,15 +111,15 @@ found_memory core false e = absurd (cc)
 
 none-due : (core : Core) (found : Bool) → (answered core found).answered ≡ false → found ≡ true → core.shut ≡ false → core.lost ≡ false →
     (is_some_text (due_answer core) ≡ false) × (core.answered ≡ false)
-none-due core true e f s l = unanswered_if (is_open core) core e (rw (s, l) refl)
+none-due core true e f s l = unanswered_if (may_answer core) core e (rw (s, l) refl)
 none-due core false e f s l = absurd (cc)
 
-over_of : (mid : Core) (found : Bool) → (is_over (handled (answered mid found)) && is_some (handled (answered mid found)).peer) ≡ (is_over mid && is_some mid.peer)
+over_of : (mid : Core) (found : Bool) → (is_stopping (handled (answered mid found)) && is_some (handled (answered mid found)).peer) ≡ (is_stopping mid && is_some mid.peer)
 unfolding handled
-over_of mid true = over_if (is_open mid) mid
+over_of mid true = over_if (may_answer mid) mid
   where
     over_if : (w : Bool) (core : Core) → let n = (if w then record core { answered = is_some_text (due_answer core) || core.answered } else core) in
-        (is_over n && is_some n.peer) ≡ (is_over core && is_some core.peer)
+        (is_stopping n && is_some n.peer) ≡ (is_stopping core && is_some core.peer)
     over_if true core = refl
     over_if false core = refl
 over_of mid false = refl
@@ -152,9 +152,9 @@ open_end mid found begun e =
 
 -- ---- an open connection
 
-due_handled : (mid : Core) → is_open mid ≡ true → due_answer (handled (answered mid true)) ≡ due_answer mid
+due_handled : (mid : Core) → may_answer mid ≡ true → due_answer (handled (answered mid true)) ≡ due_answer mid
 unfolding handled
-due_handled mid o = due_if (is_open mid) mid
+due_handled mid o = due_if (may_answer mid) mid
   where
     due_if : (w : Bool) (core : Core) → due_answer (handled (if w then record core { answered = is_some_text (due_answer core) || core.answered } else core)) ≡ due_answer core
     due_if true core = refl
@@ -172,7 +172,7 @@ idle_waiting d (Script index host) true r n b u p s l =
     idle_begun d (launch_by d index host)
     (some_launch d.site.now d.peer d.request.bytes index host p (ap (λ x. asked x d.request.bytes) (sym s) ∙ r)) u
   where
-    none_yet : (o : Outcome) (request : Asked) (output : List ℕ) → is_undecided o ≡ true → is_some_text (answer_by true o request output) ≡ false
+    none_yet : (o : Decision) (request : Asked) (output : List ℕ) → is_undecided o ≡ true → is_some_text (answer_by true o request output) ≡ false
     none_yet Undecided request output e = refl
     none_yet Output request output e = absurd (cc)
     none_yet Dropped request output e = absurd (cc)

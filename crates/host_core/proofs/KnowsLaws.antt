@@ -19,8 +19,8 @@ use Rattle.host_trace.specs.Projections.{client_out, child_out, peer_of, peers, 
 use Rattle.host_trace.specs.Account.{is_refusal}
 use Rattle.host_trace.proofs.FirstLaws.{flat_map-push, list_any-push, count_by-push, since-push, first-push}
 use Rattle.host_core.specs.Built.{IsBuilt, is_built_item}
-use Rattle.host_core.specs.declared.child.Outcome.{Outcome}
-use Rattle.host_core.specs.declared.child.Outcome.TheVariants.{Undecided, Output, Dropped}
+use Rattle.host_core.specs.declared.child.Decision.{Decision}
+use Rattle.host_core.specs.declared.child.Decision.TheVariants.{Undecided, Output, Dropped}
 use Rattle.host_core.specs.declared.machine.Core.{Core}
 use Rattle.host_core.specs.Knows.{Knows, Admits, Once, is_first, ends, more_accepted, noted, with_more, more_unless, more_len, passes, with_peer, decided, outcome_by, asked_by, one_if, zero_if, decides, is_unbuilt, StartsNone, StartsFirst}
 
@@ -142,7 +142,7 @@ pub since-none : (test : Item → Bool) (V : List Item) → list_any test V ≡ 
 since-none test [] e = refl
 since-none test (y ∷ V) e = let parts = or_parts (test y) (list_any test V) e in rw parts.0 (since-none test V parts.1)
 
-decided-some : (y : Item) (now : Outcome) → decided true (outcome_by (Some y)) now ≡ outcome_by (Some y)
+decided-some : (y : Item) (now : Decision) → decided true (outcome_by (Some y)) now ≡ outcome_by (Some y)
 decided-some (In (ChildEof k)) now = refl
 decided-some _ now = refl
 
@@ -157,7 +157,7 @@ nothing : List Item
 nothing = []
 
 -- the outcome is that of the decider, after one more item
-outcome-push : (begun : Bool) (outcome : Outcome) (d s : Item → Bool) (V : List Item) (x : Item) →
+outcome-push : (begun : Bool) (outcome : Decision) (d s : Item → Bool) (V : List Item) (x : Item) →
     begun ≡ list_any s V → outcome ≡ outcome_by (first d (since s V)) →
     (if d x then decided begun outcome (outcome_by (Some x)) else outcome) ≡ outcome_by (first d (since s (V ++ x ∷ [])))
 outcome-push true outcome d s V x b o =
@@ -290,7 +290,7 @@ any-none p q (x ∷ V) f e =
     unless false b f e = refl
 
 -- a run whose output is the answer was so before, or is so by this item
-output_new : (w b : Bool) (o now : Outcome) → (if w then decided b o now else o) ≡ Output →
+output_new : (w b : Bool) (o now : Decision) → (if w then decided b o now else o) ≡ Output →
     (o ≡ Output) ⊎ ((w ≡ true) × (b ≡ true) × (o ≡ Undecided) × (now ≡ Output))
 output_new true true Undecided now e = inr (refl, refl, refl, e)
 output_new true true Output now e = inl refl

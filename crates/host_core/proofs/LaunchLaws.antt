@@ -20,7 +20,7 @@ use Rattle.host_core.specs.Acts.{AllActs}
 use Rattle.host_core.specs.Launches.{IsRightAct}
 use Rattle.host_core.specs.Knows.{Knows, zero_if}
 use Rattle.host_core.specs.Stands.{is_closed}
-use Rattle.host_core.specs.Due.{asks, is_over, is_input_due, is_kill_due, is_release_due, is_ask_due, input_given, kill_given, release_given, handled, handling, due_why, closed, shuts, answered, answering, is_open, is_answer_due, due_answer, writes, gone_on, going_on, going_by, launch_by, starts, is_waiting, acts_of}
+use Rattle.host_core.specs.Due.{asks, is_stopping, is_input_due, is_kill_due, is_release_due, is_ask_due, input_given, kill_given, release_given, handled, handling, due_why, closed, shuts, answered, answering, may_answer, is_answer_due, due_answer, writes, gone_on, going_on, going_by, launch_by, starts, is_waiting, acts_of}
 use Rattle.host_core.proofs.ActsLaws.{append_map, Knows-answered, Knows-handled, Knows-closed, waiting_open}
 use Rattle.host_core.proofs.CalmLaws.{closed-closed}
 
@@ -48,7 +48,7 @@ right-shuts site before (Some why) = (tt, tt)
 
 right-answering : (site : Site) (before : List Item) (core : Core) (found : Bool) → AllRight site before (answering core found)
 right-answering site before core true =
-    elim (is_open core) as (λ b. AllRight site before (if b then writes (due_answer core) else [])) [ true ↦ right-writes site before (due_answer core) | false ↦ tt ]
+    elim (may_answer core) as (λ b. AllRight site before (if b then writes (due_answer core) else [])) [ true ↦ right-writes site before (due_answer core) | false ↦ tt ]
 right-answering site before core false = tt
 
 right-handling : (site : Site) (before : List Item) (core : Core) → AllRight site before (handling core)
@@ -105,7 +105,7 @@ right-gone : (site : Site) (core : Core) (W : List Item) (w found : Bool) → is
     AllRight site W (if w then going_by core (asks core) found else [])
 right-gone site core W true found w c k same own =
     let p = waiting_open core.shut (not (is_some core.peer)) core.child.begun w in
-    let q = calm_facts core.shut (is_some core.peer) core.lost (is_over core) core.answered p.0 p.1 c in
+    let q = calm_facts core.shut (is_some core.peer) core.lost (is_stopping core) core.answered p.0 p.1 c in
     right-going site core W (asks core) found refl k same own p.0 q.0 (over_facts core.stopped core.unbuilt q.1) p.2
 right-gone site core W false found w c k same own = tt
 

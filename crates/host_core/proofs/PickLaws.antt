@@ -15,7 +15,7 @@ use Rattle.first_path.specs.declared.asked.Asked.TheVariants.{More, Refused, Scr
 use Rattle.host_core.specs.declared.machine.Core.{Core}
 use Rattle.host_core.specs.Acts.{picked}
 use Rattle.host_core.specs.Answer.{is_unfinished}
-use Rattle.host_core.specs.Due.{asks, is_input_due, is_kill_due, is_release_due, is_ask_due, input_given, kill_given, release_given, handled, handling, due_why, closed, shuts, answered, answering, is_open, due_answer, writes, gone_on, going_on, going_by, launch_by, starts, is_waiting, acts_of}
+use Rattle.host_core.specs.Due.{asks, is_input_due, is_kill_due, is_release_due, is_ask_due, input_given, kill_given, release_given, handled, handling, due_why, closed, shuts, answered, answering, may_answer, due_answer, writes, gone_on, going_on, going_by, launch_by, starts, is_waiting, acts_of}
 
 -- ---- the parts
 
@@ -36,7 +36,7 @@ writes_off test (Some text) f = rw (f text) refl
 
 answering_off : (test : Item → Bool) (core : Core) (found : Bool) → ((bytes : List ℕ) → test (Out (Write 0 bytes)) ≡ false) → picked test (answering core found) ≡ []
 answering_off test core true f =
-    elim (is_open core) as (λ b. picked test (if b then writes (due_answer core) else []) ≡ []) [ true ↦ writes_off test (due_answer core) f | false ↦ refl ]
+    elim (may_answer core) as (λ b. picked test (if b then writes (due_answer core) else []) ≡ []) [ true ↦ writes_off test (due_answer core) f | false ↦ refl ]
 answering_off test core false f = refl
 
 shuts_off : (test : Item → Bool) (why : Option Why) → ((why : Why) → test (Out (Shut 0 why)) ≡ false) → picked test (shuts why) ≡ []

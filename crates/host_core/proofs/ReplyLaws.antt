@@ -18,7 +18,7 @@ use Rattle.host_trace.specs.Projections.{client_out}
 use Rattle.first_path.specs.declared.asked.Asked.{Asked}
 use Rattle.first_path.specs.declared.asked.Asked.TheVariants.{More, Refused, Script}
 use Rattle.host_core.specs.declared.machine.Core.{Core}
-use Rattle.host_core.specs.Due.{asks, is_input_due, is_kill_due, is_release_due, is_ask_due, input_given, kill_given, release_given, handled, handling, due_why, closed, shuts, answered, answering, is_open, due_answer, writes, gone_on, going_on, going_by, launch_by, starts, is_waiting, acts_of, text_by}
+use Rattle.host_core.specs.Due.{asks, is_input_due, is_kill_due, is_release_due, is_ask_due, input_given, kill_given, release_given, handled, handling, due_why, closed, shuts, answered, answering, may_answer, due_answer, writes, gone_on, going_on, going_by, launch_by, starts, is_waiting, acts_of, text_by}
 
 -- what acts write
 abbrev pub wrote : List Act → List ℕ
@@ -70,13 +70,13 @@ wrote-writes None = refl
 wrote-writes (Some text) = append-nil text
 
 unfoldable pub given_text : Core → Bool → List ℕ
-given_text core true = if is_open core then text_by (due_answer core) else []
+given_text core true = if may_answer core then text_by (due_answer core) else []
 given_text core false = []
 
 wrote-answering : (core : Core) (found : Bool) → wrote (answering core found) ≡ given_text core found
 unfolding given_text
 wrote-answering core true =
-    elim (is_open core) as (λ b. wrote (if b then writes (due_answer core) else []) ≡ (if b then text_by (due_answer core) else [])) [
+    elim (may_answer core) as (λ b. wrote (if b then writes (due_answer core) else []) ≡ (if b then text_by (due_answer core) else [])) [
       | true ↦ wrote-writes (due_answer core)
       | false ↦ refl
     ]

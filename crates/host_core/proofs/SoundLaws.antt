@@ -8,13 +8,13 @@ use Rattle.host_trace.specs.declared.items.Why.{Why}
 use Rattle.host_trace.specs.declared.items.Why.TheVariants.{Done, Gone, Cut, Idle, Full, Stopped, NoMemory}
 use Rattle.first_path.specs.declared.asked.Asked.{Asked}
 use Rattle.first_path.specs.declared.asked.Asked.TheVariants.{More, Refused, Script}
-use Rattle.host_core.specs.declared.child.Outcome.{Outcome}
-use Rattle.host_core.specs.declared.child.Outcome.TheVariants.{Undecided, Output, Dropped}
+use Rattle.host_core.specs.declared.child.Decision.{Decision}
+use Rattle.host_core.specs.declared.child.Decision.TheVariants.{Undecided, Output, Dropped}
 use Rattle.host_core.specs.declared.machine.Core.{Core}
 use Rattle.host_core.specs.Answer.{is_unfinished}
 use Rattle.host_core.specs.Knows.{decided}
 use Rattle.host_core.specs.Stands.{fresh, doomed, born, born_by, fed, alone, alone_by}
-use Rattle.host_core.specs.Due.{asks, is_undecided, is_dropped, is_over, is_input_due, is_kill_due, is_release_due, is_ask_due, input_given, kill_given, release_given, handled, closed, closed_by, due_why, why_of, gone_on, gone_on_by, is_waiting, answered, answer_by, due_answer, acted, is_open, is_answer_due, is_some_text, launch_by, begun_by}
+use Rattle.host_core.specs.Due.{asks, is_undecided, is_dropped, is_stopping, is_input_due, is_kill_due, is_release_due, is_ask_due, input_given, kill_given, release_given, handled, closed, closed_by, due_why, why_of, gone_on, gone_on_by, is_waiting, answered, answer_by, due_answer, acted, may_answer, is_answer_due, is_some_text, launch_by, begun_by}
 
 -- ---- what no part of a step changes
 
@@ -52,7 +52,7 @@ keeps-if true core = record { site = refl; peer = refl; request = refl; stopped 
 keeps-if false core = keeps_all core
 
 pub keeps-answered : (core : Core) (found : Bool) → Keeps core (answered core found)
-keeps-answered core true = keeps-if (is_open core) core
+keeps-answered core true = keeps-if (may_answer core) core
 keeps-answered core false = record { site = refl; peer = refl; request = refl; stopped = refl; unbuilt = refl; started = refl; refused = refl; exited = refl; output = refl; begun = λ b. b }
 
 pub keeps-handled : (core : Core) → Keeps core (handled core)
@@ -158,7 +158,7 @@ marks-if true core = refl
 marks-if false core = refl
 
 pub child-answered : (core : Core) (found : Bool) → (answered core found).child ≡ core.child
-child-answered core true = marks-if (is_open core) core
+child-answered core true = marks-if (may_answer core) core
 child-answered core false = refl
 
 fed_by : (s i : Bool) → (not s || (s && not i || i)) ≡ true
@@ -188,7 +188,7 @@ born-acted mid found begun h =
 
 -- a child that wasn't begun isn't decided
 
-fresh_drop : (b : Bool) (o now : Outcome) → (b || is_undecided o) ≡ true → (b || is_undecided (decided b o now)) ≡ true
+fresh_drop : (b : Bool) (o now : Decision) → (b || is_undecided o) ≡ true → (b || is_undecided (decided b o now)) ≡ true
 fresh_drop true o now h = refl
 fresh_drop false o now h = h
 
@@ -230,7 +230,7 @@ fresh-acted mid found begun h =
 
 -- ---- before the client is there
 
-no_due : (b : Bool) (o : Outcome) (request : Asked) (output : List ℕ) → b ≡ false → is_unfinished request ≡ true → is_some_text (answer_by b o request output) ≡ false
+no_due : (b : Bool) (o : Decision) (request : Asked) (output : List ℕ) → b ≡ false → is_unfinished request ≡ true → is_some_text (answer_by b o request output) ≡ false
 no_due true o request output e m = absurd (cc)
 no_due false o More output e m = refl
 no_due false o (Refused cause bare) output e m = absurd (cc)
@@ -241,7 +241,7 @@ alone_none true b l r s e = absurd (cc)
 alone_none false true l r s e = absurd (cc)
 alone_none false false l r s e = refl
 
-alone_due : (p k b l r s : Bool) (o : Outcome) (request : Asked) (output : List ℕ) → alone_by p (k || b || l || r || s) (is_unfinished request) ≡ true →
+alone_due : (p k b l r s : Bool) (o : Decision) (request : Asked) (output : List ℕ) → alone_by p (k || b || l || r || s) (is_unfinished request) ≡ true →
     is_some_text (answer_by b o request output) ≡ true → p ≡ true
 alone_due true k b l r s o request output h e = refl
 alone_due false k b l r s o request output h e =
@@ -265,9 +265,9 @@ alone-if true core h =
 alone-if false core h = h
 
 pub alone-answered : (core : Core) (found : Bool) → (found ≡ false → is_answer_due core ≡ true) → alone core ≡ true → alone (answered core found) ≡ true
-alone-answered core true f h = alone-if (is_open core) core h
+alone-answered core true f h = alone-if (may_answer core) core h
 alone-answered core false f h =
-    alone_there (record core { lost = true }) (due_peer core h (and_parts (is_open core) (is_some_text (due_answer core)) (f refl)).1)
+    alone_there (record core { lost = true }) (due_peer core h (and_parts (may_answer core) (is_some_text (due_answer core)) (f refl)).1)
 
 pub alone-handled : (core : Core) → alone core ≡ true → alone (handled core) ≡ true
 unfolding handled
@@ -283,7 +283,7 @@ why_peer false k b false false false m false why h e = absurd (cc)
 
 pub shut_peer : (core : Core) (why : Why) → alone core ≡ true → due_why core ≡ Some why → is_some core.peer ≡ true
 shut_peer core why h e =
-    why_peer (is_some core.peer) core.asked core.child.begun core.lost core.answered core.shut (is_unfinished (asks core)) (is_over core) why h e
+    why_peer (is_some core.peer) core.asked core.child.begun core.lost core.answered core.shut (is_unfinished (asks core)) (is_stopping core) why h e
 
 alone-closed_by : (core : Core) (why : Option Why) → due_why core ≡ why → alone core ≡ true → alone (closed_by core why) ≡ true
 alone-closed_by core None e h = h
@@ -333,7 +333,7 @@ doom_more true true false d l' d' f g h = let e = f refl in grind (arith, common
 doom_more true false false true l' d' f g h = let e = g refl in grind (arith, common_steps)
 doom_more true false false false l' d' f g h = absurd (cc)
 
-dropped_stays : (b : Bool) (o now : Outcome) → is_dropped o ≡ true → is_dropped (decided b o now) ≡ true
+dropped_stays : (b : Bool) (o now : Decision) → is_dropped o ≡ true → is_dropped (decided b o now) ≡ true
 dropped_stays true Dropped now e = refl
 dropped_stays true Undecided now e = absurd (cc)
 dropped_stays true Output now e = absurd (cc)
@@ -344,9 +344,9 @@ doomed-if true core h = h
 doomed-if false core h = h
 
 doomed-answered : (core : Core) (found : Bool) → doomed core ≡ true → doomed (answered core found) ≡ true
-doomed-answered core true h = doomed-if (is_open core) core h
+doomed-answered core true h = doomed-if (may_answer core) core h
 doomed-answered core false h =
-    doom_more core.child.killed core.lost (is_over core) (is_dropped core.child.outcome) true (is_dropped core.child.outcome) (λ e. refl) (λ e. e) h
+    doom_more core.child.killed core.lost (is_stopping core) (is_dropped core.child.outcome) true (is_dropped core.child.outcome) (λ e. refl) (λ e. e) h
 
 doom_kill : (st x e k : Bool) → (not k || x) ≡ true → (not (st && x && not e && not k || k) || x) ≡ true
 doom_kill st x e true h = grind (arith, common_steps)
@@ -354,12 +354,12 @@ doom_kill st x e false h = grind (arith, common_steps)
 
 doomed-handled : (core : Core) → doomed core ≡ true → doomed (handled core) ≡ true
 unfolding handled
-doomed-handled core h = doom_kill core.child.started (core.lost || is_over core || is_dropped core.child.outcome) core.child.exited core.child.killed h
+doomed-handled core h = doom_kill core.child.started (core.lost || is_stopping core || is_dropped core.child.outcome) core.child.exited core.child.killed h
 
 doomed-closed : (core : Core) (why : Option Why) → doomed core ≡ true → doomed (closed_by core why) ≡ true
 doomed-closed core None h = h
 doomed-closed core (Some NoMemory) h =
-    doom_more core.child.killed core.lost (is_over core) (is_dropped core.child.outcome) core.lost (is_dropped (decided core.child.begun core.child.outcome Dropped)) (λ e. e)
+    doom_more core.child.killed core.lost (is_stopping core) (is_dropped core.child.outcome) core.lost (is_dropped (decided core.child.begun core.child.outcome Dropped)) (λ e. e)
     (dropped_stays core.child.begun core.child.outcome Dropped) h
 doomed-closed core (Some _) h = h
 
@@ -371,7 +371,7 @@ doomed-going : (core : Core) (request : Asked) (found : Bool) → doomed core �
 doomed-going core More found h = h
 doomed-going core (Script index host) true h = doomed-begun core (launch_by core index host) h
 doomed-going core (Script index host) false h =
-    doom_more core.child.killed core.lost (is_over core) (is_dropped core.child.outcome) true (is_dropped core.child.outcome) (λ e. refl) (λ e. e) h
+    doom_more core.child.killed core.lost (is_stopping core) (is_dropped core.child.outcome) true (is_dropped core.child.outcome) (λ e. refl) (λ e. e) h
 doomed-going core (Refused cause bare) found h = h
 
 doomed-gone : (w : Bool) (core : Core) (found : Bool) → doomed core ≡ true → doomed (if w then gone_on_by core (asks core) found else core) ≡ true
@@ -410,7 +410,7 @@ nothing_due true l t r e = refl
 nothing_due false l t r e = absurd (cc)
 
 pub closed-shut : (core : Core) → core.shut ≡ true → closed core ≡ core
-closed-shut core e = ap (λ (w : Option Why). closed_by core w) (nothing_due core.shut core.lost (is_over core && is_some core.peer) core.answered e)
+closed-shut core e = ap (λ (w : Option Why). closed_by core w) (nothing_due core.shut core.lost (is_stopping core && is_some core.peer) core.answered e)
 
 pub closed-twice : (core : Core) → closed (closed core) ≡ closed core
 closed-twice core = twice (due_why core) refl
@@ -442,11 +442,11 @@ answer_leaves true core = (refl, refl)
 answer_leaves false core = (refl, refl)
 
 pub answered-shut : (core : Core) (found : Bool) → (answered core found).shut ≡ core.shut
-answered-shut core true = (answer_leaves (is_open core) core).0
+answered-shut core true = (answer_leaves (may_answer core) core).0
 answered-shut core false = refl
 
 pub answered-lost : (core : Core) → (answered core true).lost ≡ core.lost
-answered-lost core = (answer_leaves (is_open core) core).1
+answered-lost core = (answer_leaves (may_answer core) core).1
 
 handled_fields : (core : Core) → ((handled core).shut ≡ core.shut) × ((handled core).lost ≡ core.lost) × ((handled core).child.outcome ≡ core.child.outcome) × ((handled core).child.begun ≡ core.child.begun)
 unfolding handled
@@ -464,7 +464,7 @@ begun_end mid found begun e =
     let db : d.child.begun ≡ true = (lost_closed h (due_why h)).1 ∙ hb in
     let g : gone_on d begun ≡ d = ap (λ w. if w then gone_on_by d (asks d) begun else d) (not_waiting_begun d.shut (not (is_some d.peer)) d.child.begun db) in
     let same : closed (gone_on d begun) ≡ d = ap closed g ∙ closed-twice h in
-    let o = closed_outcome h h.shut h.lost (is_over h && is_some h.peer) h.answered in
+    let o = closed_outcome h h.shut h.lost (is_stopping h && is_some h.peer) h.answered in
     let s : h.shut ≡ mid.shut = f.0 ∙ answered-shut mid found in
     let oc : h.child.outcome ≡ mid.child.outcome = f.2 ∙ ap (λ c. c.outcome) c in
     record {

@@ -27,7 +27,7 @@ use Rattle.host_trace.proofs.StepLaws.{steps-append}
 use Rattle.first_path.specs.declared.asked.Asked.{Asked}
 use Rattle.first_path.specs.declared.asked.Asked.TheVariants.{More, Refused, Script}
 use Rattle.first_path.specs.FirstRequest.{asked}
-use Rattle.host_core.specs.declared.child.Outcome.TheVariants.{Undecided}
+use Rattle.host_core.specs.declared.child.Decision.TheVariants.{Undecided}
 use Rattle.host_core.specs.declared.machine.Core.{Core}
 use Rattle.std.proofs.Common.{Global, Bor}
 use Rattle.host_core.specs.Built.{IsBuilt, is_built_item}
@@ -39,7 +39,7 @@ use Rattle.host_core.specs.Demands.{is_child_of}
 use Rattle.host_core.specs.Ends.{Ends}
 use Rattle.host_core.specs.Good.{StepGood, begins_with_event, BuiltGood, ConnectionGood, ChildGood, Good}
 use Rattle.host_core.specs.Knows.{Knows, Notes, noted, one_if, outcome_of, outcome_by, decided, decides, is_unbuilt}
-use Rattle.host_core.specs.Due.{asks, acted, acts_of, is_open, is_answer_due, is_over, is_undecided, closed, closed_by, due_why, handled, gone_on, gone_on_by, is_waiting, answered, is_some_text, is_start_due, due_answer, answer_by, text_by, launch_by, begun_by, is_script}
+use Rattle.host_core.specs.Due.{asks, acted, acts_of, may_answer, is_answer_due, is_stopping, is_undecided, closed, closed_by, due_why, handled, gone_on, gone_on_by, is_waiting, answered, is_some_text, is_start_due, due_answer, answer_by, text_by, launch_by, begun_by, is_script}
 use Rattle.host_core.specs.Stands.{Steps, Stands, calm_by, is_output, is_closed, apt, apt_by, alone, idle}
 use Rattle.host_core.proofs.SoundLaws.{born-acted, fresh-acted, doomed-acted, fed-acted, alone-acted, alone-answered, alone-handled, keeps-acted}
 use Rattle.host_core.proofs.IdleLaws.{idle-acted}
@@ -118,7 +118,7 @@ if-site true core = (refl, refl)
 if-site false core = (refl, refl)
 
 answered-site : (core : Core) (found : Bool) → ((answered core found).site ≡ core.site) × ((answered core found).request ≡ core.request)
-answered-site core true = if-site (is_open core) core
+answered-site core true = if-site (may_answer core) core
 answered-site core false = (refl, refl)
 
 handled-site : (core : Core) → ((handled core).site ≡ core.site) × ((handled core).request ≡ core.request)
@@ -190,25 +190,25 @@ apt_script s l a b request h e f g = grind (arith, common_steps)
 given-shut : (mid : Core) (found : Bool) → mid.shut ≡ true → (found ≡ false → is_answer_due mid ≡ true) → (found ≡ true) × (given_text mid found ≡ [])
 unfolding given_text
 given-shut mid true e f = (refl, ap (λ w. if w then text_by (due_answer mid) else []) (shut_open mid.shut mid.lost e))
-given-shut mid false e f = absurd (let a : is_open mid ≡ false = shut_open mid.shut mid.lost e in let b : is_open mid ≡ true = due_open mid (f refl) in cc)
+given-shut mid false e f = absurd (let a : may_answer mid ≡ false = shut_open mid.shut mid.lost e in let b : may_answer mid ≡ true = due_open mid (f refl) in cc)
 
-given-open : (mid : Core) (found : Bool) → found ≡ true → is_open mid ≡ true → given_text mid found ≡ text_by (due_answer mid)
+given-open : (mid : Core) (found : Bool) → found ≡ true → may_answer mid ≡ true → given_text mid found ≡ text_by (due_answer mid)
 unfolding given_text
 given-open mid true e o = ap (λ w. if w then text_by (due_answer mid) else []) o
 given-open mid false e o = absurd (cc)
 
-lost_some : (mid : Core) (begun : Bool) (t : Option (List ℕ)) → due_answer mid ≡ t → is_open mid ≡ true → (acted mid true begun).lost ≡ true → text_by t ≡ []
+lost_some : (mid : Core) (begun : Bool) (t : Option (List ℕ)) → due_answer mid ≡ t → may_answer mid ≡ true → (acted mid true begun).lost ≡ true → text_by t ≡ []
 lost_some mid begun None d o e = refl
 lost_some mid begun (Some text) d o e =
     absurd (let a : mid.lost ≡ true = sym (answered-lost mid begun o (ap is_some_text d)) ∙ e in let b = (or_parts mid.shut mid.lost (not-true (mid.shut || mid.lost) o)).1 in cc)
 
-lost_if : (w : Bool) (mid : Core) (begun : Bool) → is_open mid ≡ w → (acted mid true begun).lost ≡ true → (if w then text_by (due_answer mid) else []) ≡ []
+lost_if : (w : Bool) (mid : Core) (begun : Bool) → may_answer mid ≡ w → (acted mid true begun).lost ≡ true → (if w then text_by (due_answer mid) else []) ≡ []
 lost_if true mid begun o e = lost_some mid begun (due_answer mid) refl o e
 lost_if false mid begun o e = refl
 
 lost_text : (mid : Core) (found begun : Bool) → (acted mid found begun).lost ≡ true → given_text mid found ≡ []
 unfolding given_text
-lost_text mid true begun e = lost_if (is_open mid) mid begun refl e
+lost_text mid true begun e = lost_if (may_answer mid) mid begun refl e
 lost_text mid false begun e = refl
 
 since-none : (test : Item → Bool) (V : List Item) → list_any test V ≡ false → since test V ≡ []
@@ -286,7 +286,7 @@ module _ (core mid : Core) (T : List Item) (limit : ℕ) (ev : Event) (found beg
       let aT : answer site T 0 ≡ model_by core.child.begun core.child.outcome (asked site (client_in T 0)) (child_out T 0) =
       answer-is site T core.child.begun s.knows.child.exchange built_before ∙ ap (λ o. model_by core.child.begun o (asked site (client_in T 0)) (child_out T 0)) oT in
       let st = stable core.child.begun d core.child.outcome now (asked site (client_in T 0)) (child_out T 0) (child_out U 0)
-      (calm_shut core.shut core.answered (is_over core) core.child.begun (is_undecided core.child.outcome) s.calm c) h in
+      (calm_shut core.shut core.answered (is_stopping core) core.child.begun (is_undecided core.child.outcome) s.calm c) h in
       out_same c ∙ (r ∙ ap spelling (aT ∙ (sym st ∙ (sym uU ∙ sym aU))))
 
   before_open : core.shut ≡ false → client_out T 0 ≡ []
@@ -295,7 +295,7 @@ module _ (core mid : Core) (T : List Item) (limit : ℕ) (ev : Event) (found beg
   wrote_open : core.shut ≡ false → last.lost ≡ false → client_out U 0 ≡ text_by (due_answer mid)
   wrote_open c e =
       let w : Went mid last found = went mid found begun e in
-      let o : is_open mid ≡ true = rw (notes_shut core mid ev notes ∙ c, w.lost) refl in
+      let o : may_answer mid ≡ true = rw (notes_shut core mid ev notes ∙ c, w.lost) refl in
       client_out-step T ev mid found begun ∙ rw (before_open c) (given-open mid found w.memory o)
 
   whole_open : core.shut ≡ false → last.lost ≡ false →

@@ -18,8 +18,8 @@ use Rattle.host_core.specs.Answer.{launch_for}
 use Rattle.reply_writer.specs.Spelling.{whole_text_of}
 use Rattle.reply_writer.specs.FaultReply.{fault_reply_of}
 use Rattle.host_core.specs.declared.child.Child.{Child}
-use Rattle.host_core.specs.declared.child.Outcome.{Outcome}
-use Rattle.host_core.specs.declared.child.Outcome.TheVariants.{Undecided, Output, Dropped}
+use Rattle.host_core.specs.declared.child.Decision.{Decision}
+use Rattle.host_core.specs.declared.child.Decision.TheVariants.{Undecided, Output, Dropped}
 use Rattle.host_core.specs.declared.machine.Core.{Core}
 use Rattle.host_core.specs.Knows.{decided}
 
@@ -27,35 +27,35 @@ use Rattle.host_core.specs.Knows.{decided}
 abbrev pub asks : Core → Asked
 asks core = asked core.request.site core.request.bytes
 
-abbrev pub is_dropped : Outcome → Bool
+abbrev pub is_dropped : Decision → Bool
 is_dropped Dropped = true
 is_dropped Undecided = false
 is_dropped Output = false
 
-abbrev pub is_undecided : Outcome → Bool
+abbrev pub is_undecided : Decision → Bool
 is_undecided Undecided = true
 is_undecided Output = false
 is_undecided Dropped = false
 
 -- nothing is begun any more
-abbrev pub is_over : Core → Bool
-is_over core = core.stopped || core.unbuilt
+abbrev pub is_stopping : Core → Bool
+is_stopping core = core.stopped || core.unbuilt
 
 abbrev pub is_input_due : Core → Bool
 is_input_due core = core.child.started && not core.child.input_ended
 
 abbrev pub is_kill_due : Core → Bool
 is_kill_due core =
-    core.child.started && (core.lost || is_over core || is_dropped core.child.outcome) && not core.child.exited && not core.child.killed
+    core.child.started && (core.lost || is_stopping core || is_dropped core.child.outcome) && not core.child.exited && not core.child.killed
 
 abbrev pub is_release_due : Core → Bool
 is_release_due core =
-    core.child.exited && (core.lost || is_over core || is_dropped core.child.outcome) && not core.child.output_ended
+    core.child.exited && (core.lost || is_stopping core || is_dropped core.child.outcome) && not core.child.output_ended
 
 -- ---- the answer
 
 -- the text of the answer, where there is one: of a child that was begun by its outcome, else by the request
-abbrev pub answer_by : Bool → Outcome → Asked → List ℕ → Option (List ℕ)
+abbrev pub answer_by : Bool → Decision → Asked → List ℕ → Option (List ℕ)
 answer_by true Output request output = Some (text_of_output (derived output))
 answer_by true Undecided request output = None
 answer_by true Dropped request output = None
@@ -79,19 +79,19 @@ text_by None = []
 text_by (Some text) = text
 
 -- whether an answer may be given, and whether there is one to give
-abbrev pub is_open : Core → Bool
-is_open core = not (core.shut || core.lost)
+abbrev pub may_answer : Core → Bool
+may_answer core = not (core.shut || core.lost)
 
 abbrev pub is_answer_due : Core → Bool
-is_answer_due core = is_open core && is_some_text (due_answer core)
+is_answer_due core = may_answer core && is_some_text (due_answer core)
 
 -- what the core is after its answer, for which memory was found or not
 abbrev pub answered : Core → Bool → Core
-answered core true = if is_open core then record core { answered = is_some_text (due_answer core) || core.answered } else core
+answered core true = if may_answer core then record core { answered = is_some_text (due_answer core) || core.answered } else core
 answered core false = record core { lost = true }
 
 abbrev pub answering : Core → Bool → List Act
-answering core true = if is_open core then writes (due_answer core) else []
+answering core true = if may_answer core then writes (due_answer core) else []
 answering core false = []
 
 -- ---- the end of the connection
@@ -105,7 +105,7 @@ why_of false false false true = Some Done
 why_of false false false false = None
 
 abbrev pub due_why : Core → Option Why
-due_why core = why_of core.shut core.lost (is_over core && is_some core.peer) core.answered
+due_why core = why_of core.shut core.lost (is_stopping core && is_some core.peer) core.answered
 
 abbrev pub shuts : Option Why → List Act
 shuts None = []
@@ -168,7 +168,7 @@ going_on core found = if is_waiting core then going_by core (asks core) found el
 
 abbrev pub is_ask_due : Core → Bool
 is_ask_due core =
-    core.child.started && (not core.child.output_ended && not core.child.killed && not core.lost && not (is_over core))
+    core.child.started && (not core.child.output_ended && not core.child.killed && not core.lost && not (is_stopping core))
     && is_undecided core.child.outcome && not core.child.asked
 
 abbrev pub input_given : Core → Core

@@ -12,8 +12,8 @@ use Rattle.host_trace.specs.Kinds.{is_accepted, is_stop, is_shut, is_shut_for_me
 use Rattle.host_trace.specs.Projections.{stopped, shut, shut_for_memory, start_stands, start_answered, started, exited, input_ended, output_ended, output_eof, killed, accepted_count, client_in, client_out, child_out, peer_of, start_numbers, children_of}
 use Rattle.host_trace.specs.Account.{start_refused, is_refusal}
 use Rattle.host_core.specs.Built.{IsBuilt, is_built_item}
-use Rattle.host_core.specs.declared.child.Outcome.{Outcome}
-use Rattle.host_core.specs.declared.child.Outcome.TheVariants.{Undecided, Output, Dropped}
+use Rattle.host_core.specs.declared.child.Decision.{Decision}
+use Rattle.host_core.specs.declared.child.Decision.TheVariants.{Undecided, Output, Dropped}
 use Rattle.host_core.specs.declared.child.Child.{Child}
 use Rattle.host_core.specs.declared.machine.Core.{Core}
 
@@ -24,12 +24,12 @@ abbrev pub decides : Item → Bool
 decides x = is_child_eof 0 x || is_stop x || is_shut_for_memory 0 x
 
 -- what the item that decides a child makes of it
-abbrev pub outcome_by : Option Item → Outcome
+abbrev pub outcome_by : Option Item → Decision
 outcome_by None = Undecided
 outcome_by (Some (In (ChildEof k))) = Output
 outcome_by (Some _) = Dropped
 
-abbrev pub outcome_of : List Item → Outcome
+abbrev pub outcome_of : List Item → Decision
 outcome_of V = outcome_by (first decides (since (is_start 0) V))
 
 abbrev pub one_if : Bool → ℕ
@@ -139,7 +139,7 @@ with_peer (p ∷ ps) (Some old) = Some old
 with_peer (p ∷ ps) None = Some p
 
 -- a child that has begun and is undecided is decided
-abbrev pub decided : Bool → Outcome → Outcome → Outcome
+abbrev pub decided : Bool → Decision → Decision → Decision
 decided true Undecided now = now
 decided true Output now = Output
 decided true Dropped now = Dropped

@@ -13,9 +13,9 @@ use Rattle.host_core.specs.Replies.{Replies}
 use Rattle.host_core.specs.Knows.{Knows}
 use Rattle.host_core.specs.Answer.{is_unfinished}
 use Rattle.host_core.specs.Delivery.{whole}
-use Rattle.host_core.specs.Due.{is_undecided, is_dropped, is_over, asks, is_some_text, due_answer, is_script}
-use Rattle.host_core.specs.declared.child.Outcome.{Outcome}
-use Rattle.host_core.specs.declared.child.Outcome.TheVariants.{Undecided, Output, Dropped}
+use Rattle.host_core.specs.Due.{is_undecided, is_dropped, is_stopping, asks, is_some_text, due_answer, is_script}
+use Rattle.host_core.specs.declared.child.Decision.{Decision}
+use Rattle.host_core.specs.declared.child.Decision.TheVariants.{Undecided, Output, Dropped}
 use Rattle.host_core.specs.declared.machine.Core.{Core}
 
 -- a connection that is shut, answered or over has no undecided child
@@ -23,7 +23,7 @@ abbrev pub calm_by : Bool → Bool → Bool → Bool
 calm_by over begun undecided = not (over && begun && undecided)
 
 abbrev pub calm : Core → Bool
-calm core = calm_by (core.shut || core.answered || is_over core) core.child.begun (is_undecided core.child.outcome)
+calm core = calm_by (core.shut || core.answered || is_stopping core) core.child.begun (is_undecided core.child.outcome)
 
 -- a child was begun before it was started or refused, and started before it exited
 abbrev pub born_by : Bool → Bool → Bool → Bool → Bool
@@ -38,7 +38,7 @@ fresh core = core.child.begun || is_undecided core.child.outcome
 
 -- a child that was killed is no longer waited for
 abbrev pub doomed : Core → Bool
-doomed core = not core.child.killed || (core.lost || is_over core || is_dropped core.child.outcome)
+doomed core = not core.child.killed || (core.lost || is_stopping core || is_dropped core.child.outcome)
 
 -- the input of a child that was started is ended
 abbrev pub fed : Core → Bool
@@ -60,7 +60,7 @@ abbrev pub idle : Core → Bool
 idle core = idle_by core.shut (is_some_text (due_answer core)) (is_unfinished (asks core)) core.child.begun
 
 -- a child whose output is the answer has ended it
-abbrev pub is_output : Outcome → Bool
+abbrev pub is_output : Decision → Bool
 is_output Output = true
 is_output Undecided = false
 is_output Dropped = false
@@ -70,7 +70,7 @@ ended core = not (is_output core.child.outcome) || core.child.output_ended
 
 -- what asks for it to be shut has shut it
 abbrev pub is_closed : Core → Bool
-is_closed core = core.shut || not (core.lost || is_over core && is_some core.peer || core.answered)
+is_closed core = core.shut || not (core.lost || is_stopping core && is_some core.peer || core.answered)
 
 -- more is asked for only where the head isn't whole, and a child was begun only for a script
 abbrev pub apt_by : Bool → Bool → Asked → Bool

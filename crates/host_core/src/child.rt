@@ -3,7 +3,7 @@ use host_base::Bytes;
 
 /// What became of a child's run.
 #[derive(Clone, Copy, Debug, PartialEq, Eq)]
-pub enum Outcome {
+pub enum Decision {
     Undecided,
     /// Its output ended, and is the answer.
     Output,
@@ -24,7 +24,7 @@ pub struct Child {
     pub killed: bool,
     /// Its output was asked for and has not come.
     pub asked: bool,
-    pub outcome: Outcome,
+    pub outcome: Decision,
     pub output: Bytes,
     /// How many bytes of output were heard, as long as they are within the limit.
     pub output_len: u64,
@@ -35,10 +35,10 @@ impl Child {
     ghost use Rattle.host_core.specs.Knows.{decided};
 
     /// Records what decided the run, unless that is known already or no child was begun.
-    pub fn decide(&mut self, outcome: Outcome)
+    pub fn decide(&mut self, outcome: Decision)
         ensures { self.new ≡ record self.old { outcome = decided self.old.begun self.old.outcome outcome } }
     {
-        if self.begun && self.outcome == Outcome::Undecided {
+        if self.begun && self.outcome == Decision::Undecided {
             self.outcome = outcome;
         }
     }

@@ -5,7 +5,7 @@ mod answer;
 mod fit;
 mod hear;
 
-use super::child::{Child, Outcome};
+use super::child::{Child, Decision};
 use first_path::FirstRequest;
 use host_base::{Bytes, NoMemory, Peer, Site};
 use host_trace::{Event, Outside};
@@ -70,7 +70,7 @@ impl<'s> Core<'s> {
                 output_ended: false,
                 killed: false,
                 asked: false,
-                outcome: Outcome::Undecided,
+                outcome: Decision::Undecided,
                 output: Bytes::new(alloc),
                 output_len: 0,
             },

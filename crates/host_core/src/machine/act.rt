@@ -2,7 +2,7 @@
 ghost use Rattle.std.specs.Prelude.{◌≡◌, ◌∷◌, [], true};
 ghost use Rattle.host_trace.specs.Told.{Adds, carries_nothing};
 
-use super::super::child::Outcome;
+use super::super::child::Decision;
 use super::Core;
 use first_path::{Asked, launch};
 use host_base::{Launch, NoMemory, Text};
@@ -21,7 +21,7 @@ impl Core<'_> {
     ghost use Rattle.std.specs.Prelude.{◌≡◌, [], true, false, IfOk, if◌then◌else◌};
     ghost use Rattle.host_trace.specs.declared.items.Act.TheVariants.{EndInput, Kill, Release, WantChild};
     ghost use Rattle.host_trace.specs.Told.{Adds, when};
-    ghost use Rattle.host_core.specs.Due.{is_input_due, is_kill_due, is_release_due, is_ask_due, input_given, kill_given, release_given, ask_given, due_why, is_answer_due, is_start_due, closed, shuts, gone_on, going_on, handled, handling, answered, acted, acts_of, launch_by, begun_by, starts, is_over};
+    ghost use Rattle.host_core.specs.Due.{is_input_due, is_kill_due, is_release_due, is_ask_due, input_given, kill_given, release_given, ask_given, due_why, is_answer_due, is_start_due, closed, shuts, gone_on, going_on, handled, handling, answered, acted, acts_of, launch_by, begun_by, starts, is_stopping};
 
     /// Gives all acts that are due, in their order.
     pub(super) fn act<O: Outside>(&mut self, out: &mut O) -> (bool, bool)
@@ -51,8 +51,8 @@ impl Core<'_> {
         self.want_child(out);
     }
 
-    fn is_over(&self) -> bool
-        ensures { result ≡ is_over self.now }
+    fn is_stopping(&self) -> bool
+        ensures { result ≡ is_stopping self.now }
     {
         self.stopped || self.unbuilt
     }
@@ -73,7 +73,7 @@ impl Core<'_> {
         ensures told { Adds (O.trace out.old) (when (is_kill_due self.old) (Kill 0)) (O.trace out.new) }
         ensures limit { O.limit out.new ≡ O.limit out.old }
     {
-        let over = self.lost || self.is_over() || self.child.outcome == Outcome::Dropped;
+        let over = self.lost || self.is_stopping() || self.child.outcome == Decision::Dropped;
         if self.child.started && over && !self.child.exited && !self.child.killed {
             give_plain(&Act::Kill { k: 0 }, out);
             self.child.killed = true;
@@ -85,7 +85,7 @@ impl Core<'_> {
         ensures told { Adds (O.trace out.old) (when (is_release_due self.old) (Release 0)) (O.trace out.new) }
         ensures limit { O.limit out.new ≡ O.limit out.old }
     {
-        let over = self.lost || self.is_over() || self.child.outcome == Outcome::Dropped;
+        let over = self.lost || self.is_stopping() || self.child.outcome == Decision::Dropped;
         if self.child.exited && over && !self.child.output_ended {
             give_plain(&Act::Release { k: 0 }, out);
             self.child.output_ended = true;
@@ -97,10 +97,13 @@ impl Core<'_> {
         ensures told { Adds (O.trace out.old) (when (is_ask_due self.old) (WantChild 0)) (O.trace out.new) }
         ensures limit { O.limit out.new ≡ O.limit out.old }
     {
-        let open = !self.child.output_ended && !self.child.killed && !self.lost && !self.is_over();
+        let open = !self.child.output_ended
+            && !self.child.killed
+            && !self.lost
+            && !self.is_stopping();
         if self.child.started
             && open
-            && self.child.outcome == Outcome::Undecided
+            && self.child.outcome == Decision::Undecided
             && !self.child.asked
         {
             give_plain(&Act::WantChild { k: 0 }, out);
@@ -115,7 +118,7 @@ impl Core<'_> {
             None
         } else if self.lost {
             Some(Why::NoMemory)
-        } else if self.is_over() && self.peer.is_some() {
+        } else if self.is_stopping() && self.peer.is_some() {
             Some(Why::Stopped)
         } else if self.answered {
             Some(Why::Done)
@@ -134,7 +137,7 @@ impl Core<'_> {
             give_plain(&Act::Shut { c: 0, why }, out);
             self.shut = true;
             if why == Why::NoMemory {
-                self.child.decide(Outcome::Dropped);
+                self.child.decide(Decision::Dropped);
             }
         }
     }

@@ -5,7 +5,7 @@ ghost use Rattle.reply_writer.specs.Spelling.{whole_text_of};
 ghost use Rattle.reply_writer.specs.FaultReply.{fault_reply_of};
 ghost use Rattle.host_core.specs.Texts.{text_of_output};
 
-use super::super::child::Outcome;
+use super::super::child::Decision;
 use super::Core;
 use first_path::{Asked, Derived, derive};
 use host_base::{Bytes, Cause, NoMemory};
@@ -40,8 +40,11 @@ impl Core<'_> {
     {
         if self.child.begun {
             match self.child.outcome {
-                Outcome::Output => Ok(Some(output_text(self.alloc, self.child.output.as_slice())?)),
-                Outcome::Undecided | Outcome::Dropped => Ok(None),
+                Decision::Output => Ok(Some(output_text(
+                    self.alloc,
+                    self.child.output.as_slice(),
+                )?)),
+                Decision::Undecided | Decision::Dropped => Ok(None),
             }
         } else {
             match self.request.asked() {

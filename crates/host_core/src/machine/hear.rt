@@ -1,7 +1,7 @@
 // What an event makes of what is known.
 ghost use Rattle.std.specs.Prelude.{◌≡◌};
 
-use super::super::child::Outcome;
+use super::super::child::Decision;
 use super::Core;
 use host_base::{Bytes, Peer};
 use host_trace::Event;
@@ -10,7 +10,7 @@ impl Core<'_> {
     ghost use Rattle.std.specs.Prelude.{◌≡◌, true, false};
     ghost use Rattle.host_trace.specs.declared.items.Item.TheVariants.{In};
     ghost use Rattle.host_trace.specs.declared.items.Event.TheVariants.{Accepted, ClientBytes, ChildBytes};
-    ghost use Rattle.host_core.specs.declared.child.Outcome.TheVariants.{Dropped};
+    ghost use Rattle.host_core.specs.declared.child.Decision.TheVariants.{Dropped};
     ghost use Rattle.host_core.specs.Built.{is_built_item};
     ghost use Rattle.host_core.specs.Knows.{Notes, noted, decided, counted};
 
@@ -27,13 +27,13 @@ impl Core<'_> {
                 if k == 0 {
                     self.child.asked = false;
                     self.child.output_ended = true;
-                    self.child.decide(Outcome::Output);
+                    self.child.decide(Decision::Output);
                 }
             }
             Event::Exited { k } => self.child.exited |= k == 0,
             Event::Stop => {
                 self.stopped = true;
-                self.child.decide(Outcome::Dropped);
+                self.child.decide(Decision::Dropped);
             }
             other => self.hear_unbuilt(&other),
         }
@@ -55,7 +55,7 @@ impl Core<'_> {
         ensures { self.new ≡ record self.old { unbuilt = true; child = record self.old.child { outcome = decided self.old.child.begun self.old.child.outcome Dropped } } }
     {
         self.unbuilt = true;
-        self.child.decide(Outcome::Dropped);
+        self.child.decide(Decision::Dropped);
     }
 
     fn hear_client(&mut self, c: u64, bytes: &Bytes)
