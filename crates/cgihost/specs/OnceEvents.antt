@@ -28,7 +28,7 @@ is_once_event (WsBinary c) = false
 is_once_event (WsClosed c) = false
 is_once_event (WsBad c) = false
 is_once_event (NoRoom c) = c == 0
-is_once_event Tick = false
+is_once_event (Tick secs) = false
 is_once_event Stop = true
 
 -- an event that is handed up before anything is read

@@ -8,6 +8,7 @@ use Rattle.std.proofs.lemmas.Bool.{cond-true, cond-false, eq-eqb, ne_eqb, lt-ltb
 use Rattle.host_base.specs.declared.launch.Pair.{Pair}
 use Rattle.host_base.specs.declared.site.Script.{Script}
 use Rattle.host_base.specs.declared.site.Site.{Site}
+use Rattle.first_path.specs.FirstHost.{first_name}
 use Rattle.first_path.specs.FirstLaunch.{folder_of, is_slash, pair, is_kept, environment}
 
 -- ---- the folder of a program
@@ -113,6 +114,6 @@ listed peer path name port =
     ∷ []
 
 pub listed_is : (site : Site) (peer : List ℕ) (script : Script) (host : List ℕ) (peer' path name port : List ℕ)
-    → peer' ≡ peer → path ≡ script.path → name ≡ cond (nat_lt 0 (length host)) host site.name → port ≡ decimal site.port
+    → peer' ≡ peer → path ≡ script.path → name ≡ cond (nat_lt 0 (length host)) host (first_name site) → port ≡ decimal site.port
     → filter is_kept (listed peer' path name port) ≡ environment site peer script host
 listed_is site peer script host peer' path name port e1 e2 e3 e4 = λ i. filter is_kept (listed (e1 i) (e2 i) (e3 i) (e4 i))

@@ -9,6 +9,7 @@ use Rattle.host_base.specs.declared.cause.Cause.TheVariants.{NotBuilt}
 use Rattle.host_base.specs.declared.request.Head.{Head}
 use Rattle.host_base.specs.declared.site.Script.{Script as SiteScript}
 use Rattle.host_base.specs.declared.site.Site.{Site}
+use Rattle.first_path.specs.FirstHost.{first_scripts}
 use Rattle.head_reader.specs.declared.step.HeadStep.{HeadStep}
 use Rattle.head_reader.specs.declared.step.HeadStep.TheVariants.{Whole, More as HeadMore, Bad}
 use Rattle.head_reader.specs.RequestHead.{read_head}
@@ -26,13 +27,13 @@ at_position test (s ∷ scripts) index e =
     let p = position-Some test (s ∷ scripts) index s e in (get_or (s ∷ scripts) index s, slice_get-get_or (s ∷ scripts) index s p.0)
 
 whole_script : (site : Site) (head : Head) (bare : Bool) (b : Bool) (index : ℕ) (host : List ℕ) →
-    (if b then asked_at (host_of head) (position (is_at head.target) site.scripts) else Refused NotBuilt bare) ≡ Script index host →
-    (script : SiteScript) × (slice_get site.scripts index ≡ Some script)
+    (if b then asked_at (host_of head) (position (is_at head.target) (first_scripts site)) else Refused NotBuilt bare) ≡ Script index host →
+    (script : SiteScript) × (slice_get (first_scripts site) index ≡ Some script)
 whole_script site head bare true index host e =
-    at_position (is_at head.target) site.scripts index (at_script (host_of head) (position (is_at head.target) site.scripts) index host e)
+    at_position (is_at head.target) (first_scripts site) index (at_script (host_of head) (position (is_at head.target) (first_scripts site)) index host e)
 whole_script site head bare false index host e = absurd (cc)
 
-asked_script : (site : Site) (r : HeadStep) (index : ℕ) (host : List ℕ) → asked_by site r ≡ Script index host → (script : SiteScript) × (slice_get site.scripts index ≡ Some script)
+asked_script : (site : Site) (r : HeadStep) (index : ℕ) (host : List ℕ) → asked_by site r ≡ Script index host → (script : SiteScript) × (slice_get (first_scripts site) index ≡ Some script)
 asked_script site HeadMore index host e = absurd (cc)
 asked_script site (Bad cause) index host e = absurd (cc)
 asked_script site (Whole head used) index host e = whole_script site head (bytes_eq head.method (codes "HEAD")) (is_built site head) index host e

@@ -5,6 +5,7 @@ use Rattle.host_base.specs.declared.launch.Launch.{Launch}
 use Rattle.host_base.specs.declared.launch.Pair.{Pair}
 use Rattle.host_base.specs.declared.site.Script.{Script}
 use Rattle.host_base.specs.declared.site.Site.{Site}
+use Rattle.first_path.specs.FirstHost.{first_name, first_scripts}
 
 abbrev pub pair : List ℕ → List ℕ → Pair
 pair name value = record { name = name; value = value }
@@ -30,7 +31,7 @@ variables site peer script host =
     ∷ pair (codes "REMOTE_HOST") peer
     ∷ pair (codes "REQUEST_METHOD") (codes "GET")
     ∷ pair (codes "SCRIPT_NAME") script.path
-    ∷ pair (codes "SERVER_NAME") (if nat_lt 0 (length host) then host else site.name)
+    ∷ pair (codes "SERVER_NAME") (if nat_lt 0 (length host) then host else first_name site)
     ∷ pair (codes "SERVER_PORT") (decimal site.port)
     ∷ pair (codes "SERVER_PROTOCOL") (codes "HTTP/1.1")
     ∷ pair (codes "SERVER_SOFTWARE") (codes "cgihost/1")
@@ -47,6 +48,6 @@ abbrev pub launch_at : Site → List ℕ → List ℕ → Option Script → Opti
 launch_at site peer host None = None
 launch_at site peer host (Some script) = Some (launch_of_script site peer script host)
 
--- the launch of the script at a place of the site, for a peer and the host of the request
+-- the launch of the script at a place of the first host, for a peer and the host of the request
 abbrev pub launch_of : Site → List ℕ → ℕ → List ℕ → Option Launch
-launch_of site peer index host = launch_at site peer host (slice_get site.scripts index)
+launch_of site peer index host = launch_at site peer host (slice_get (first_scripts site) index)

@@ -9,6 +9,7 @@ use Rattle.host_base.specs.declared.request.Version.{Version}
 use Rattle.host_base.specs.declared.request.Version.TheVariants.{V10, V11}
 use Rattle.host_base.specs.declared.site.Script.{Script}
 use Rattle.host_base.specs.declared.site.Site.{Site}
+use Rattle.first_path.specs.FirstHost.{first_scripts}
 use Rattle.host_base.specs.FieldLists.{is_named, values_named, field_words}
 use Rattle.head_reader.specs.declared.step.HeadStep.{HeadStep}
 use Rattle.head_reader.specs.declared.step.HeadStep.TheVariants.{Whole, More, Bad}
@@ -66,7 +67,7 @@ abbrev pub is_built : Site → Head → Bool
 is_built site head =
     bytes_eq head.method (codes "GET") && is_version_11 head.version && is_plain_host (host_of head) && closes head
     && not (has_field (codes "Content-Length") head) && not (has_field (codes "Transfer-Encoding") head) && not (has_field (codes "Expect") head)
-    && is_plain_target head.target && not (list_any (goes_on head.target) site.scripts)
+    && is_plain_target head.target && not (list_any (goes_on head.target) (first_scripts site))
 
 -- ---- the script
 
@@ -80,7 +81,7 @@ asked_at host None = Refused NoScript false
 -- what a whole head asks for
 abbrev pub asked_by_head : Site → Head → Asked
 asked_by_head site head =
-    if is_built site head then asked_at (host_of head) (position (is_at head.target) site.scripts)
+    if is_built site head then asked_at (host_of head) (position (is_at head.target) (first_scripts site))
     else Refused NotBuilt (bytes_eq head.method (codes "HEAD"))
 
 abbrev pub asked_by : Site → HeadStep → Asked

@@ -1,5 +1,6 @@
-pub mod FirstRequest
-pub mod FirstOutput
-pub mod FirstLaunch
-pub mod Heard
 pub mod FirstHearing
+pub mod FirstHost
+pub mod FirstLaunch
+pub mod FirstOutput
+pub mod FirstRequest
+pub mod Heard

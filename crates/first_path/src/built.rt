@@ -1,9 +1,11 @@
 // What a whole head asks for.
 ghost use Rattle.std.specs.Prelude.{◌≡◌, ◌&&◌, ◌||◌, not, codes, bytes_eq, position, IfOk};
 ghost use Rattle.std.specs.List.{list_all, list_any};
+ghost use Rattle.first_path.specs.FirstHost.{first_scripts};
 ghost use Rattle.first_path.specs.FirstRequest.{is_path_byte, is_plain_target, is_version_11, has_field, closes, goes_on, is_built, is_at, host_of, is_plain_host, asked_by_head};
 
 use crate::Asked;
+use crate::first_host::first_scripts;
 use crate::host::{host_of, host_text, is_plain_host};
 use host_base::{Cause, Head, NoMemory, Script, Site, Version, is_same_word};
 use std::alloc::Global;
@@ -74,10 +76,10 @@ fn closes(head: &Head) -> bool
 }
 
 fn has_plain_target(site: &Site, head: &Head) -> bool
-    ensures { result ≡ (is_plain_target head.now.target && not (list_any (goes_on head.now.target) site.now.scripts)) }
+    ensures { result ≡ (is_plain_target head.now.target && not (list_any (goes_on head.now.target) (first_scripts site.now))) }
 {
     let target = head.target.as_slice();
-    is_plain_target(target) && !goes_on_somewhere(target, site.scripts.as_slice())
+    is_plain_target(target) && !goes_on_somewhere(target, first_scripts(site))
 }
 
 // Whether a head is of the part that is built.
@@ -110,7 +112,7 @@ pub fn ask(alloc: Global, site: &Site, head: &Head) -> Result<Asked, NoMemory>
             bare: head.method.as_slice() == b"HEAD".as_slice(),
         });
     }
-    match script_at(site.scripts.as_slice(), head.target.as_slice()) {
+    match script_at(first_scripts(site), head.target.as_slice()) {
         Some(index) => Ok(Asked::Script {
             index,
             host: host_text(alloc, host_of(head))?,

@@ -5,6 +5,7 @@ mod asked;
 mod built;
 mod derived;
 mod field_line;
+mod first_host;
 mod host;
 mod output;
 mod request;
@@ -12,6 +13,7 @@ mod start;
 
 pub use asked::Asked;
 pub use derived::Derived;
+pub use first_host::first_scripts;
 pub use output::derive;
 pub use request::FirstRequest;
 pub use start::launch;

@@ -1,8 +1,10 @@
 // What a script is started with.
 ghost use Rattle.std.specs.Prelude.{◌≡◌, ◌<◌, ◌++◌, ◌∷◌, [], length, filter, decimal, string_bytes, IfOk, OnOk, Some, nat_lt, if◌then◌else◌};
 ghost use Rattle.std.specs.List.{slice_get};
+ghost use Rattle.first_path.specs.FirstHost.{first_name, first_scripts};
 ghost use Rattle.first_path.specs.FirstLaunch.{folder_of, is_kept, pair, environment, launch_of_script, launch_of};
 
+use crate::first_host::{first_name, first_scripts};
 use host_base::{Launch, NoMemory, Pair, Pairs, Peer, Script, Site, Text, Texts};
 use std::alloc::Global;
 
@@ -35,11 +37,15 @@ fn port_text(alloc: Global, port: u16) -> Result<String, NoMemory>
     Ok(port.to_string(alloc)?)
 }
 
-// The host of the request, or the site's name where there is none.
-fn server_name<'a>(site: &'a Site, host: &'a Text) -> &'a Text
-    ensures { result.now ≡ (if nat_lt 0 (length host.now) then host.now else site.now.name) }
+// The host of the request, or the first host's name where there is none.
+fn server_name<'a>(site: &'a Site, host: &'a Text) -> &'a str
+    ensures { result.now ≡ (if nat_lt 0 (length host.now) then host.now else first_name site.now) }
 {
-    if host.len() > 0 { host } else { &site.name }
+    if host.len() > 0 {
+        host.as_str()
+    } else {
+        first_name(site)
+    }
 }
 
 // The meta-variables (RFC 3875 4.1) of a GET without a query.
@@ -55,7 +61,7 @@ fn environment(
     let mut variables = Pairs::new(alloc);
     let all = &mut variables;
     let peer = peer.0.as_str();
-    let name = server_name(site, host).as_str();
+    let name = server_name(site, host);
     let port = port_text(alloc, site.port)?;
     let path = script.path.as_str();
     push_kept(alloc, all, "GATEWAY_INTERFACE", "CGI/1.1")?;
@@ -88,8 +94,8 @@ fn launch_script(
     })
 }
 
-/// What the script at a place of the site, from 0, is started with (RFC 3875 4.1, 4.4 and 7.2) for a
-/// peer and the host of the request. An empty host stands for the site's name.
+/// What the script at a place of the first host, from 0, is started with (RFC 3875 4.1, 4.4 and 7.2) for a
+/// peer and the host of the request. An empty host stands for that host's name.
 pub fn launch(
     alloc: Global,
     site: &Site,
@@ -97,9 +103,9 @@ pub fn launch(
     index: usize,
     host: &Text,
 ) -> Result<Launch, NoMemory>
-    requires { index < length site.now.scripts }
+    requires { index < length (first_scripts site.now) }
     ensures { IfOk result (λ launch. launch_of site.now peer.now.0 index host.now ≡ Some launch) }
 {
-    let script = &site.scripts.as_slice()[index];
+    let script = &first_scripts(site)[index];
     launch_script(alloc, site, peer, script, host)
 }

@@ -2,8 +2,11 @@
 ghost use Rattle.std.specs.Prelude.{IfOk};
 ghost use Rattle.host_base.specs.LimitRanges.{AreInRange};
 
-use crate::{Asked, Derived, FirstRequest, derive, launch};
-use host_base::{Cause, Launch, Limits, NoMemory, Peer, Script, ScriptKind, Scripts, Site, Text};
+use crate::{Asked, Derived, FirstRequest, derive, first_scripts, launch};
+use host_base::{
+    Cause, Docs, Hosts, Launch, Limits, NoMemory, Peer, Script, ScriptKind, Scripts, Site, Text,
+    Texts, VHost,
+};
 use std::alloc::Global;
 use std::test::Fail;
 
@@ -337,13 +340,20 @@ fn site(alloc: Global, program: &str) -> Result<Site, NoMemory>
     let mut scripts = Scripts::new(alloc);
     scripts.push(script(alloc, "/cgi-bin/hello", program)?)?;
     scripts.push(script(alloc, "/cgi-bin/form", "/srv/cgi/form")?)?;
-    Ok(Site {
+    let mut hosts = Hosts::new(alloc);
+    hosts.push(VHost {
         name: Text::copy_of(alloc, "localhost")?,
+        aliases: Texts::new(alloc),
+        any: true,
+        root: Text::copy_of(alloc, "/srv/www")?,
+        scripts,
+    })?;
+    Ok(Site {
         listen: Text::copy_of(alloc, "127.0.0.1")?,
         port: 8080,
-        root: Text::copy_of(alloc, "/srv/www")?,
         limits: Limits::default(),
-        scripts,
+        hosts,
+        docs: Docs::new(alloc),
     })
 }
 
@@ -590,7 +600,7 @@ fn launches(rt: HostRuntime) -> Result<(), Fail> {
     let alloc = rt.alloc();
     let site = site(alloc, "/srv/cgi/hello")?;
     let peer = Peer(Text::copy_of(alloc, "192.0.2.1")?);
-    assert!(&rt; site.scripts.len() == 2);
+    assert!(&rt; first_scripts(&site).len() == 2);
     let hello = launch(alloc, &site, &peer, 0, &Text::copy_of(alloc, "a")?)?;
     assert_eq!(rt; hello.program.as_str(), "/srv/cgi/hello");
     assert_eq!(rt; hello.dir.as_str(), "/srv/cgi");
@@ -622,7 +632,7 @@ fn folders(rt: HostRuntime) -> Result<(), Fail> {
     let host = Text::copy_of(alloc, "a")?;
     for (program, folder) in FOLDERS.iter() {
         let site = site(alloc, program)?;
-        assert!(&rt; site.scripts.len() == 2);
+        assert!(&rt; first_scripts(&site).len() == 2);
         let started = launch(alloc, &site, &peer, 0, &host)?;
         assert_eq!(rt; started.program.as_str(), *program);
         assert_eq!(rt; started.dir.as_str(), *folder, "{program}");

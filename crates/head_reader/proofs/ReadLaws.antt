@@ -2,7 +2,7 @@
 use Rattle.std.proofs.Common.{Result, Ok, Err, OnErr, IsSome, ◌≡◌, ℕ, ◌+◌, ◌-◌, ◌<◌, ◌≤◌, true, false, List, [], ◌∷◌, ◌++◌, length, take, drop, map, refl, sym, ap, ◌∙◌, arith, append_assoc, length-append, length-drop, append-nil, take-append-drop, cond, eqb, ltb, leb, ◌&&◌, ◌≢◌, inl, inr, subst, Option, Some, None, option_map}
 use Rattle.std.specs.Prelude.{bytes_eq}
 use Rattle.std.specs.Option.{option_and_then}
-use Rattle.std.specs.List.{slice_split}
+use Rattle.std.specs.List.{slice_split, flat_map}
 use Rattle.std.proofs.lemmas.List.{length-map, length-take, length-take-le, take-take, take_rest, take-append-le, drop-append-le, nil_from_length, take_all, take_at}
 use Rattle.std.proofs.lemmas.Bool.{cond-true, cond-false, cond_both, cases_Bool, cases_lt, and_parts, and_from, or_parts, eqb-true, eq-eqb, leb-true, lt-ltb, le-ltb, ltb-false, le-leb, lt-leb, leb-false}
 use Rattle.std.proofs.lemmas.List.Elements.{All-nil, All-head}
@@ -18,7 +18,8 @@ use Rattle.host_base.specs.declared.limits.Limits.{Limits}
 use Rattle.host_base.specs.declared.cause.Cause.TheVariants.{HeadTooLong, TargetTooLong, TooManyFields}
 use Rattle.head_reader.specs.declared.step.HeadStep.TheVariants.{Whole, More, Bad}
 use Rattle.std.proofs.Math.Seq.{take-append-add}
-use Rattle.head_lines.specs.Lines.{first_line, IsSearched, Front, is_lf, front_of, front_of_parts, front_len, IsFilled}
+use Rattle.head_lines.specs.LineLaws.{HasFront}
+use Rattle.head_lines.specs.Lines.{first_line, IsSearched, Front, is_lf, front_of, front_of_parts, front_len, IsFilled, without_cr, with_lf}
 use Rattle.head_reader.specs.RequestHead.{head_of, is_space, target_part, step_at_end, whole_or_bad, leading_crlf, step_by_front, read_head, is_whole, second_word}
 use Rattle.head_reader.specs.HeadLaws.{parsed_head, parsed_field, whole_head, IsHead, SaysTheGrammar, FrontsSayTheGrammar, HeadsAreUnique, WholesAreHeads, HeadsAreRead, MoreIsOpen, AnswersStay}
 use Rattle.head_reader.specs.HeadSpans.{field_at}
@@ -536,3 +537,30 @@ more_is_open limits bytes = (there, back)
         read_at limits bytes (leading_crlf bytes) refl
         ∙ ap (step_by_front limits (leading_crlf bytes) (length text)) (ap front_of (take_all limits.head text (omega arith)) ∙ open_yet.0)
         ∙ cond-false _ _ _ (lt-leb _ _ short)
+
+-- a whole head has two bytes at least, so the limit has
+pub two_for_whole : (limits : Limits) (bytes : List ℕ) (head : Head) (used : ℕ) → read_head limits bytes ≡ Whole head used → 2 ≤ limits.head
+two_for_whole limits bytes head used e = go (front_of (take limits.head (drop (leading_crlf bytes) bytes))) refl
+  where
+    by_parts : (f : Front) (shape : HasFront (take limits.head (drop (leading_crlf bytes) bytes)) f) (parts : List (List ℕ))
+        → f.lines ≡ map without_cr parts → f.len ≡ length (flat_map with_lf parts) + (length shape.last + 1) → head_of f.lines ≡ Some head
+        → f.len ≤ length (take limits.head (drop (leading_crlf bytes) bytes)) → 2 ≤ limits.head
+    by_parts f shape [] lines len is within =
+        let none : head_of [] ≡ Some head = ap head_of (sym lines) ∙ is in absurd (cc)
+    by_parts f shape (part ∷ parts) lines len is within =
+        omega (arith, length-append (with_lf part) (flat_map with_lf parts), length-append part (10 ∷ []), length-take limits.head (drop (leading_crlf bytes) bytes))
+
+    go : (o : Option Front) → front_of (take limits.head (drop (leading_crlf bytes) bytes)) ≡ o → 2 ≤ limits.head
+    go None is =
+        let told : step_by_front limits (leading_crlf bytes) (length (drop (leading_crlf bytes) bytes)) None ≡ Whole head used =
+        sym (read_at limits bytes (leading_crlf bytes) refl ∙ ap (step_by_front limits (leading_crlf bytes) (length (drop (leading_crlf bytes) bytes))) is) ∙ e in
+        elim (chosen (leb limits.head (length (drop (leading_crlf bytes) bytes))) _ _ _ told) [
+          | inl long ↦ absurd (cc)
+          | inr short ↦ absurd (cc)
+        ]
+    go (Some f) is =
+        let told = at_end_whole limits (leading_crlf bytes + f.len) used f head
+        (sym (read_at limits bytes (leading_crlf bytes) refl ∙ ap (step_by_front limits (leading_crlf bytes) (length (drop (leading_crlf bytes) bytes))) is) ∙ e) in
+        let shape = front_shape (take limits.head (drop (leading_crlf bytes) bytes)) f is in
+        let cut = front-take (take limits.head (drop (leading_crlf bytes) bytes)) f is in
+        by_parts f shape shape.parts shape.lines_are shape.len_is told.2 cut.0

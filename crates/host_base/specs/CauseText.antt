@@ -1,7 +1,7 @@
 -- The status code and the text of each cause.
 use Rattle.std.specs.Prelude.{ℕ, List, codes}
 use Rattle.host_base.specs.declared.cause.Cause.{Cause}
-use Rattle.host_base.specs.declared.cause.Cause.TheVariants.{BadHead, Incomplete, BadTarget, BadHost, BadFraming, BadChunk, BadPath, BadHandshake, OriginRefused, NoScript, IdleTime, BodyTooLong, TargetTooLong, BadExpect, UpgradeNeeded, HeadTooLong, TooManyFields, RedirectLoop, NotServed, CodingUnknown, NotBuilt, StartFailed, OutputBroken, OutputTooLarge, NoOutput, HeaderIncomplete, HeaderTooLarge, HeaderLine, HeaderRepeated, BadStatus, BadLocation, NoneOfThree, Full, RunTime}
+use Rattle.host_base.specs.declared.cause.Cause.TheVariants.{BadHead, Incomplete, BadTarget, BadHost, BadFraming, BadChunk, BadPath, BadHandshake, BadScgi, BadParams, BadRecord, OriginRefused, NoScript, IdleTime, BodyTooLong, TargetTooLong, BadExpect, UnknownHost, UpgradeNeeded, HeadTooLong, TooManyFields, RedirectLoop, NotServed, CodingUnknown, NotBuilt, StartFailed, OutputBroken, OutputTooLarge, NoOutput, HeaderIncomplete, HeaderTooLarge, HeaderLine, HeaderRepeated, BadStatus, BadLocation, NoneOfThree, Full, RunTime}
 
 -- the status code (RFC 9110 15)
 abbrev pub status_of : Cause → ℕ
@@ -13,12 +13,16 @@ status_of BadFraming = 400
 status_of BadChunk = 400
 status_of BadPath = 400
 status_of BadHandshake = 400
+status_of BadScgi = 400
+status_of BadParams = 400
+status_of BadRecord = 400
 status_of OriginRefused = 403
 status_of NoScript = 404
 status_of IdleTime = 408
 status_of BodyTooLong = 413
 status_of TargetTooLong = 414
 status_of BadExpect = 417
+status_of UnknownHost = 421
 status_of UpgradeNeeded = 426
 status_of HeadTooLong = 431
 status_of TooManyFields = 431
@@ -50,12 +54,16 @@ text_of BadFraming = codes "bad body framing"
 text_of BadChunk = codes "bad chunk"
 text_of BadPath = codes "bad path"
 text_of BadHandshake = codes "bad websocket handshake"
+text_of BadScgi = codes "bad scgi request"
+text_of BadParams = codes "bad parameters"
+text_of BadRecord = codes "bad record"
 text_of OriginRefused = codes "origin refused"
 text_of NoScript = codes "no script for this path"
 text_of IdleTime = codes "request took too long"
 text_of BodyTooLong = codes "request body too large"
 text_of TargetTooLong = codes "target too long"
 text_of BadExpect = codes "expectation not met"
+text_of UnknownHost = codes "host not served"
 text_of UpgradeNeeded = codes "websocket version 13 required"
 text_of HeadTooLong = codes "request head too large"
 text_of TooManyFields = codes "too many header fields"

@@ -20,6 +20,12 @@ pub enum Cause {
     BadPath,
     /// The key or the framing is none of a handshake (RFC 6455 4.2.1).
     BadHandshake,
+    /// The bytes are no request of SCGI.
+    BadScgi,
+    /// The variables that a web server sent are no list of pairs, or name no path.
+    BadParams,
+    /// The bytes are no record of FastCGI.
+    BadRecord,
     /// The script takes no such origin (RFC 6455 4.2.2).
     OriginRefused,
     /// No script stands at the path.
@@ -32,6 +38,8 @@ pub enum Cause {
     TargetTooLong,
     /// The expectation is none that can be met (RFC 9110 10.1.1).
     BadExpect,
+    /// No host of the site has the name that the request asks for (RFC 9110 15.5.20).
+    UnknownHost,
     /// The request asks for no WebSocket of version 13 (RFC 6455 4.2.2).
     UpgradeNeeded,
     /// The head is longer than the limit.
@@ -89,13 +97,17 @@ impl Cause {
             | Cause::BadFraming
             | Cause::BadChunk
             | Cause::BadPath
-            | Cause::BadHandshake => 400,
+            | Cause::BadHandshake
+            | Cause::BadScgi
+            | Cause::BadParams
+            | Cause::BadRecord => 400,
             Cause::OriginRefused => 403,
             Cause::NoScript => 404,
             Cause::IdleTime => 408,
             Cause::BodyTooLong => 413,
             Cause::TargetTooLong => 414,
             Cause::BadExpect => 417,
+            Cause::UnknownHost => 421,
             Cause::UpgradeNeeded => 426,
             Cause::HeadTooLong | Cause::TooManyFields => 431,
             Cause::RedirectLoop => 500,
@@ -129,12 +141,16 @@ impl Cause {
             Cause::BadChunk => "bad chunk",
             Cause::BadPath => "bad path",
             Cause::BadHandshake => "bad websocket handshake",
+            Cause::BadScgi => "bad scgi request",
+            Cause::BadParams => "bad parameters",
+            Cause::BadRecord => "bad record",
             Cause::OriginRefused => "origin refused",
             Cause::NoScript => "no script for this path",
             Cause::IdleTime => "request took too long",
             Cause::BodyTooLong => "request body too large",
             Cause::TargetTooLong => "target too long",
             Cause::BadExpect => "expectation not met",
+            Cause::UnknownHost => "host not served",
             Cause::UpgradeNeeded => "websocket version 13 required",
             Cause::HeadTooLong => "request head too large",
             Cause::TooManyFields => "too many header fields",

@@ -23,7 +23,7 @@ pub use memory::{NoMemory, Refusal};
 pub use reply::Reply;
 pub use request::{Framing, Head, Request, Target, Version};
 pub use sequence::{Bytes, Sequence};
-pub use site::{Mapped, Script, ScriptKind, Scripts, Site};
+pub use site::{DocRoot, Docs, Hosts, Mapped, Script, ScriptKind, Scripts, Site, VHost};
 pub use text::{Text, Texts};
 pub use traits::{Sink, SinkFault, SiteStore, StoreFault};
 

@@ -58,7 +58,7 @@ said_undecided Dropped = refl
 -- ---- nobody waits for a child that lingers
 
 untimely : (x : Item) → is_built_item x ≡ true → is_tick x ≡ false
-untimely (In Tick) e = absurd (cc)
+untimely (In (Tick secs)) e = absurd (cc)
 untimely _ e = refl
 
 same_end : (x : Item) → is_built_item x ≡ true → ends_waiting 0 x ≡ ends x

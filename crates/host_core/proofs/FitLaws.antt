@@ -112,5 +112,5 @@ fits-same core T (WsBinary c) s short = never_upgraded core T c s.knows
 fits-same core T (WsClosed c) s short = never_upgraded core T c s.knows
 fits-same core T (WsBad c) s short = never_upgraded core T c s.knows
 fits-same core T (NoRoom c) s short = open_same core T c s.knows short
-fits-same core T Tick s short = refl
+fits-same core T (Tick secs) s short = refl
 fits-same core T Stop s short = ap (λ b. not b) (sym s.knows.stopped)

@@ -5,7 +5,7 @@ use Rattle.host_trace.specs.declared.items.Act.{Act}
 use Rattle.host_trace.specs.declared.items.Act.TheVariants.{Write, Shut, Start, WantClient, WantChild, EndInput, Kill, Release}
 use Rattle.host_trace.specs.declared.items.Event.{Event}
 use Rattle.host_trace.specs.declared.items.Event.TheVariants.{Accepted, ClientBytes, ClientEof, ClientGone, Wrote, Started, StartFailed, StartFull, ChildBytes, ChildEof, ChildBroken, Took, InputGone, Exited, WsText, WsBinary, WsClosed, WsBad, NoRoom, Tick, Stop}
-use Rattle.host_trace.specs.Fits.{is_piece}
+use Rattle.host_trace.specs.Fits.{is_piece, is_clock}
 use Rattle.host_trace.specs.declared.items.Why.{Why}
 use Rattle.host_trace.specs.declared.items.Why.TheVariants.{Done, Stopped, NoMemory}
 use Rattle.host_trace.specs.Told.{when}
@@ -243,5 +243,5 @@ fits_by core (WsBinary c) = false
 fits_by core (WsClosed c) = false
 fits_by core (WsBad c) = false
 fits_by core (NoRoom c) = is_client_open core c
-fits_by core Tick = true
+fits_by core (Tick secs) = is_clock secs
 fits_by core Stop = not core.stopped

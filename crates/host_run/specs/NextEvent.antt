@@ -52,7 +52,7 @@ least ks = fold lesser None ks
 abbrev pub started_or_exited : Option ℕ → Option ℕ → Event
 started_or_exited (Some k) run = Started k
 started_or_exited None (Some k) = Exited k
-started_or_exited None None = Tick
+started_or_exited None None = Tick 0
 
 -- Stop, then Started for each open Start by rising number, then Exited for each running child by rising
 -- number, then Ticks

@@ -1,8 +1,9 @@
 -- The site of one script, and which paths and programs it may have.
-use Rattle.std.specs.Prelude.{ℕ, Bool, ◌==◌, ◌&&◌, not, List, [], ◌∷◌, drop, length, Option, Some, None, codes, bytes_eq, if◌then◌else◌}
+use Rattle.std.specs.Prelude.{ℕ, Bool, true, ◌==◌, ◌&&◌, not, List, [], ◌∷◌, drop, length, Option, Some, None, codes, bytes_eq, if◌then◌else◌}
 use Rattle.std.specs.List.{list_all, list_any, slice_split, starts_with, ends_with}
 use Rattle.host_base.specs.declared.site.ScriptKind.TheVariants.{Cgi}
 use Rattle.host_base.specs.declared.site.Site.{Site}
+use Rattle.host_base.specs.declared.site.VHost.{VHost}
 use Rattle.host_base.specs.LimitRanges.{default_limits}
 use Rattle.host_run.specs.declared.site.SiteFault.{SiteFault}
 use Rattle.host_run.specs.declared.site.SiteFault.TheVariants.{OutOfRange}
@@ -31,13 +32,22 @@ fault_of path program =
     if is_script_path path then (if is_program program then None else Some (OutOfRange (codes "script[0].program")))
     else Some (OutOfRange (codes "script[0].path"))
 
--- one script of kind cgi, and the defaults
+-- one host, which takes every name, with one script of kind cgi
+abbrev pub host_of_one : List ℕ → List ℕ → VHost
+host_of_one path program = record {
+  name = codes "localhost";
+  aliases = [];
+  any = true;
+  root = codes "/srv/www";
+  scripts = record { path = path; program = program; kind = Cgi; origins = None } ∷ [];
+}
+
+-- that host, and the defaults
 abbrev pub site_of_one : List ℕ → List ℕ → Site
 site_of_one path program = record {
-  name = codes "localhost";
   listen = codes "127.0.0.1";
   port = 8080;
-  root = codes "/srv/www";
   limits = default_limits;
-  scripts = record { path = path; program = program; kind = Cgi; origins = None } ∷ [];
+  hosts = host_of_one path program ∷ [];
+  docs = [];
 }

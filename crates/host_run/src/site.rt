@@ -4,7 +4,9 @@ ghost use Rattle.std.specs.List.{list_all, slice_split};
 ghost use Rattle.host_base.specs.SiteRules.{IsServed};
 ghost use Rattle.host_run.specs.OneScript.{is_slash, is_segment, has_nul, is_script_path, is_program, fault_of, site_of_one};
 
-use host_base::{Limits, NoMemory, Script, ScriptKind, Scripts, Site, Text};
+use host_base::{
+    Docs, Hosts, Limits, NoMemory, Script, ScriptKind, Scripts, Site, Text, Texts, VHost,
+};
 use std::alloc::Global;
 
 /// Why a site is refused. A key is named as in the site file: `port`, `limits.head`, `script[1].path`.
@@ -81,17 +83,24 @@ fn build(alloc: Global, path: &str, program: &str) -> Result<Site, NoMemory>
         kind: ScriptKind::Cgi,
         origins: None,
     })?;
-    Ok(Site {
+    let mut hosts = Hosts::new(alloc);
+    hosts.push(VHost {
         name: Text::copy_of(alloc, "localhost")?,
+        aliases: Texts::new(alloc),
+        any: true,
+        root: Text::copy_of(alloc, "/srv/www")?,
+        scripts,
+    })?;
+    Ok(Site {
         listen: Text::copy_of(alloc, "127.0.0.1")?,
         port: 8080,
-        root: Text::copy_of(alloc, "/srv/www")?,
         limits: Limits::default(),
-        scripts,
+        hosts,
+        docs: Docs::new(alloc),
     })
 }
 
-/// The site with one script of kind cgi and the defaults of a site file for all else. The path is
+/// The site of one host, which takes every name, with one script of kind cgi and the defaults of a site file for all else. The path is
 /// looked at first, then the program.
 pub fn one_script(alloc: Global, path: &str, program: &str) -> Result<Site, SiteFault>
     ensures site { IfOk result (λ site. (fault_of path.now program.now ≡ None) × (site ≡ site_of_one path.now program.now)) }

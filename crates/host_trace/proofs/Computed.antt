@@ -13,7 +13,7 @@ use Rattle.host_trace.specs.declared.items.Item.{Item}
 use Rattle.host_trace.specs.declared.items.Item.TheVariants.{In, Out}
 use Rattle.host_trace.specs.declared.items.Why.TheVariants.{Done, Gone, NoMemory}
 use Rattle.host_trace.specs.Trace.{steps}
-use Rattle.host_trace.specs.Projections.{client_in, client_out, child_out, child_in, said, heard, event_count, client_wanted, pending, own, children}
+use Rattle.host_trace.specs.Projections.{last_secs, client_in, client_out, child_out, child_in, said, heard, event_count, client_wanted, pending, own, children}
 use Rattle.host_trace.specs.Fits.{fits}
 use Rattle.host_trace.specs.Account.{settled, is_account, holds_slot, slots_held, all_settled}
 use Rattle.host_trace.specs.Decider.{decider, outcome, derived, failed, unanswered}
@@ -154,7 +154,7 @@ abbrev short : Limits
 short = record default_limits { run_ticks = 2; output = 3; ws_text = 2 }
 
 second_tick_decides : (launch : Launch) →
-    outcome short Cgi (Out (Start 0 0 0 0 launch) ∷ In Tick ∷ In (Started 0) ∷ In Tick ∷ In (ChildEof 0) ∷ []) 0 0 ≡ Some (failed RunTime)
+    outcome short Cgi (Out (Start 0 0 0 0 launch) ∷ In (Tick 0) ∷ In (Started 0) ∷ In (Tick 0) ∷ In (ChildEof 0) ∷ []) 0 0 ≡ Some (failed RunTime)
 second_tick_decides launch = refl
 
 third_byte_is_taken : (launch : Launch) →
@@ -168,7 +168,7 @@ fourth_byte_decides launch = refl
 
 -- neither the output nor the time of a websocket script is limited, but a line is
 long_line_decides : (launch : Launch) →
-    decider short WebSocket (Out (Start 0 0 0 0 launch) ∷ In (Started 0) ∷ In Tick ∷ In Tick ∷ In (ChildBytes 0 (codes "ab\nab")) ∷ In (ChildBytes 0 (codes "c")) ∷ []) 0 0
+    decider short WebSocket (Out (Start 0 0 0 0 launch) ∷ In (Started 0) ∷ In (Tick 0) ∷ In (Tick 0) ∷ In (ChildBytes 0 (codes "ab\nab")) ∷ In (ChildBytes 0 (codes "c")) ∷ []) 0 0
     ≡ Some (In (ChildBytes 0 (codes "c")))
 long_line_decides launch = refl
 
@@ -214,3 +214,21 @@ fourth_byte_did_not peer = refl
 
 not_asked_again : (peer : Peer) → client_wanted (In (Accepted peer) ∷ Out (WantClient 0) ∷ In (ClientBytes 0 (codes "G")) ∷ []) 0 ≡ false
 not_asked_again peer = refl
+
+-- ---- the clock
+
+-- the last second of the year 9999 fits, whatever was shown before, and the next doesn't
+last_second_fits : fits 64 (In (Tick 5) ∷ []) (Tick 253402300799) ≡ true
+last_second_fits = refl
+
+year_10000_does_not : fits 64 [] (Tick 253402300800) ≡ false
+year_10000_does_not = refl
+
+clock_may_go_back : fits 64 (In (Tick 9) ∷ []) (Tick 3) ≡ true
+clock_may_go_back = refl
+
+clock_is_the_last : last_secs (In (Tick 9) ∷ Out (WantClient 0) ∷ In (Tick 3) ∷ In (Exited 0) ∷ []) ≡ Some 3
+clock_is_the_last = refl
+
+no_clock_yet : (peer : Peer) → last_secs (In (Accepted peer) ∷ []) ≡ None
+no_clock_yet peer = refl

@@ -1,5 +1,5 @@
 -- One more item at the end of a list: what is first stays first.
-use Rattle.std.proofs.Common.{◌≡◌, ℕ, suc, ◌+◌, Bool, true, false, List, [], ◌∷◌, ◌++◌, Option, Some, None, refl, ◌∙◌, ap, append-nil, append_assoc, drop, length, cond, inl, inr, ltb, arith}
+use Rattle.std.proofs.Common.{◌≡◌, ℕ, suc, ◌+◌, Bool, true, false, List, [], ◌∷◌, ◌++◌, Option, Some, None, refl, sym, ◌∙◌, ap, append-nil, append_assoc, drop, length, cond, inl, inr, ltb, arith}
 use Rattle.std.specs.Prelude.{count_by, ◌||◌, not, if◌then◌else◌}
 use Rattle.std.specs.List.{flat_map, list_any, position, position_or_len, prefix_len, after_first}
 use Rattle.std.proofs.lemmas.Grind.{fold-append, flat_map-append}
@@ -7,7 +7,7 @@ use Rattle.std.proofs.lemmas.List.Folds.{list_any-append}
 use Rattle.std.proofs.lemmas.Bool.{ltb-false}
 use Rattle.std.proofs.Math.ListN.{drop_of_length-le}
 use Rattle.host_base.proofs.SplitLaws.{chosen}
-use Rattle.host_trace.specs.First.{since, first, first_front_from, first_front, or_else}
+use Rattle.host_trace.specs.First.{since, first, first_front_from, first_front, last_of, or_else}
 
 pub flat_map-push : {X A : Type 0} (f : X → List A) (items : List X) (x : X) → flat_map f (items ++ x ∷ []) ≡ flat_map f items ++ f x
 flat_map-push f items x = flat_map-append f items (x ∷ []) ∙ ap (λ more. flat_map f items ++ more) (append-nil (f x))
@@ -98,3 +98,33 @@ since-no_position test items is =
           let past = ltb-false _ _ none.0 in
           drop_of_length-le items (omega arith)
     ]
+
+-- ---- what is last
+
+or_none : {X : Type 0} (o : Option X) → o ≡ or_else o None
+or_none None = refl
+or_none (Some x) = refl
+
+-- the last of a list with a first item
+last_of-after : {X : Type 0} (x : X) (items : List X) → last_of (x ∷ items) ≡ or_else (last_of items) (Some x)
+last_of-after x [] = refl
+last_of-after x (y ∷ items) =
+    let e = last_of-after y items in
+    e ∙ (or_else-full (last_of items) y x ∙ ap (λ o. or_else o (Some x)) (sym e))
+  where
+    or_else-full : {X : Type 0} (o : Option X) (y x : X) → or_else o (Some y) ≡ or_else (or_else o (Some y)) (Some x)
+    or_else-full None y x = refl
+    or_else-full (Some z) y x = refl
+
+-- what is last of what follows is last, and where nothing follows, what was
+pub last_of-append : {X : Type 0} (items more : List X) → last_of (items ++ more) ≡ or_else (last_of more) (last_of items)
+last_of-append [] more = or_none (last_of more)
+last_of-append (x ∷ items) more =
+    last_of-after x (items ++ more)
+    ∙ (ap (λ o. or_else o (Some x)) (last_of-append items more)
+    ∙ (or_else-twice (last_of more) (last_of items) (Some x)
+    ∙ ap (or_else (last_of more)) (sym (last_of-after x items))))
+  where
+    or_else-twice : {X : Type 0} (a b c : Option X) → or_else (or_else a b) c ≡ or_else a (or_else b c)
+    or_else-twice (Some x) b c = refl
+    or_else-twice None b c = refl

@@ -1,12 +1,14 @@
 -- Each projection of a trace with one more item.
 use Rattle.std.proofs.Common.{◌≡◌, ℕ, ◌+◌, List, [], ◌∷◌, ◌++◌, refl, ◌∙◌, ap, zero-add}
 use Rattle.std.specs.Prelude.{◌||◌, ◌&&◌, if◌then◌else◌, sum_by}
+use Rattle.std.specs.List.{flat_map}
 use Rattle.std.proofs.lemmas.List.Sums.{sum_by-append}
 use Rattle.host_trace.specs.declared.items.Item.{Item}
-use Rattle.host_trace.specs.Kinds.{bytes_heard, bytes_written, child_started, count_took, count_wrote, input_fed, is_accepted, is_child_eof, is_event, is_exited, is_input_end, is_kill, is_output_end, is_release, is_shut, is_shut_for_memory, is_start, is_start_answer, is_started, is_stop, is_tick, is_upgrade, output_heard, texts_heard, texts_said}
-use Rattle.host_trace.specs.Projections.{accepted_count, child_in, child_out, children, client_in, client_out, event_count, exited, heard, input_ended, killed, output_ended, output_eof, released, said, shut, shut_for_memory, start_answered, start_stands, started, stopped, tick_count, took_sum, upgraded, wrote_sum}
+use Rattle.host_trace.specs.Kinds.{bytes_heard, bytes_written, child_started, count_took, count_wrote, input_fed, is_accepted, is_child_eof, is_event, is_exited, is_input_end, is_kill, is_output_end, is_release, is_shut, is_shut_for_memory, is_start, is_start_answer, is_started, is_stop, is_tick, is_upgrade, output_heard, tick_secs, texts_heard, texts_said}
+use Rattle.host_trace.specs.Projections.{accepted_count, child_in, child_out, children, client_in, client_out, event_count, exited, heard, input_ended, killed, last_secs, output_ended, output_eof, released, said, shut, shut_for_memory, start_answered, start_stands, started, stopped, tick_count, took_sum, upgraded, wrote_sum}
 use Rattle.host_trace.specs.Account.{is_refusal, start_refused, settled}
-use Rattle.host_trace.proofs.FirstLaws.{flat_map-push, list_any-push, count_by-push}
+use Rattle.host_trace.specs.First.{last_of, or_else}
+use Rattle.host_trace.proofs.FirstLaws.{flat_map-push, list_any-push, count_by-push, last_of-append}
 
 -- ---- whole strings
 
@@ -50,6 +52,12 @@ wrote_sum-push T x c = sum_by-append (count_wrote c) T (x ∷ []) ∙ ap (λ n. 
 
 pub took_sum-push : (T : List Item) (x : Item) (k : ℕ) → took_sum (T ++ x ∷ []) k ≡ took_sum T k + count_took k x
 took_sum-push T x k = sum_by-append (count_took k) T (x ∷ []) ∙ ap (λ n. took_sum T k + n) (sum_by-one (count_took k) x)
+
+-- ---- the clock
+
+-- a Tick sets it, and no other item does
+pub last_secs-push : (T : List Item) (x : Item) → last_secs (T ++ x ∷ []) ≡ or_else (last_of (tick_secs x)) (last_secs T)
+last_secs-push T x = ap last_of (flat_map-push tick_secs T x) ∙ last_of-append (flat_map tick_secs T) (tick_secs x)
 
 -- ---- what has happened
 

@@ -1,5 +1,5 @@
 -- Whether an event may come next after a trace.
-use Rattle.std.specs.Prelude.{ℕ, Bool, true, not, ◌&&◌, ◌+◌, ◌==◌, nat_lt, nat_le, List, length}
+use Rattle.std.specs.Prelude.{ℕ, Bool, not, ◌&&◌, ◌+◌, ◌==◌, nat_lt, nat_le, List, length}
 use Rattle.host_trace.specs.declared.items.Event.{Event}
 use Rattle.host_trace.specs.declared.items.Event.TheVariants.{Accepted, ClientBytes, ClientEof, ClientGone, Wrote, Started, StartFailed, StartFull, ChildBytes, ChildEof, ChildBroken, Took, InputGone, Exited, WsText, WsBinary, WsClosed, WsBad, NoRoom, Tick, Stop}
 use Rattle.host_trace.specs.declared.items.Item.{Item}
@@ -8,6 +8,10 @@ use Rattle.host_trace.specs.Projections.{stopped, shut, upgraded, is_known, clie
 -- a piece of bytes: 1 to 65,536
 abbrev pub is_piece : List ℕ → Bool
 is_piece bytes = nat_lt 0 (length bytes) && nat_le (length bytes) 65536
+
+-- Unix seconds before the year 10,000, the last that a date of RFC 9110 5.6.7 can name
+abbrev pub is_clock : ℕ → Bool
+is_clock secs = nat_lt secs 253402300800
 
 -- c was accepted and is not shut
 abbrev pub is_open : List Item → ℕ → Bool
@@ -57,5 +61,5 @@ fits limit T (WsBinary c) = is_asked_upgraded T c
 fits limit T (WsClosed c) = is_asked_upgraded T c
 fits limit T (WsBad c) = is_asked_upgraded T c
 fits limit T (NoRoom c) = is_open T c
-fits limit T Tick = true
+fits limit T (Tick secs) = is_clock secs
 fits limit T Stop = not (stopped T)

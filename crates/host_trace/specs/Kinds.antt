@@ -19,8 +19,13 @@ is_accepted (In (Accepted peer)) = true
 is_accepted _ = false
 
 abbrev pub is_tick : Item → Bool
-is_tick (In Tick) = true
+is_tick (In (Tick secs)) = true
 is_tick _ = false
+
+-- the Unix seconds that the clock shows at a Tick
+abbrev pub tick_secs : Item → List ℕ
+tick_secs (In (Tick secs)) = secs ∷ []
+tick_secs _ = []
 
 abbrev pub is_stop : Item → Bool
 is_stop (In Stop) = true

@@ -3,8 +3,8 @@ use Rattle.std.specs.Prelude.{ℕ, Bool, List, [], ◌∷◌, ◌++◌, ◌==◌
 use Rattle.std.specs.List.{flat_map, list_any, slice_get}
 use Rattle.host_base.specs.declared.launch.Peer.{Peer}
 use Rattle.host_trace.specs.declared.items.Item.{Item}
-use Rattle.host_trace.specs.Kinds.{is_event, is_accepted, is_tick, is_stop, is_client_answer, is_want_client, is_shut, is_shut_for_memory, is_upgrade, is_start, is_started, is_start_answer, is_child_answer, is_want_child, is_input_end, is_output_end, is_kill, is_release, is_exited, is_child_eof, bytes_heard, bytes_written, output_heard, input_fed, texts_said, texts_heard, count_wrote, count_took, child_started, start_number, child_of, peer_of_item, names, names_child}
-use Rattle.host_trace.specs.First.{since}
+use Rattle.host_trace.specs.Kinds.{is_event, is_accepted, is_tick, tick_secs, is_stop, is_client_answer, is_want_client, is_shut, is_shut_for_memory, is_upgrade, is_start, is_started, is_start_answer, is_child_answer, is_want_child, is_input_end, is_output_end, is_kill, is_release, is_exited, is_child_eof, bytes_heard, bytes_written, output_heard, input_fed, texts_said, texts_heard, count_wrote, count_took, child_started, start_number, child_of, peer_of_item, names, names_child}
+use Rattle.host_trace.specs.First.{since, last_of}
 
 -- ---- whole strings
 
@@ -38,6 +38,10 @@ event_count T = count_by is_event T
 
 abbrev pub tick_count : List Item → ℕ
 tick_count T = count_by is_tick T
+
+-- what the clock showed at the last Tick
+abbrev pub last_secs : List Item → Option ℕ
+last_secs T = last_of (flat_map tick_secs T)
 
 -- the first Accepted is connection 0, the next is connection 1
 abbrev pub accepted_count : List Item → ℕ

@@ -45,8 +45,8 @@ pub enum Event {
     WsBad { c: u64 },
     /// No memory was found to hear the connection.
     NoRoom { c: u64 },
-    /// 100 ms passed.
-    Tick,
+    /// 100 ms passed. `secs` is what the clock shows: Unix seconds, below 253,402,300,800 (the year 10,000).
+    Tick { secs: u64 },
     /// The server is to end.
     Stop,
 }

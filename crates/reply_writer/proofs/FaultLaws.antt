@@ -13,7 +13,7 @@ use Rattle.host_base.specs.CauseText.{status_of}
 use Rattle.reply_writer.specs.FaultReply.{upgrade_fields}
 use Rattle.reply_writer.specs.Phrases.{Reason, phrase_in, phrase_of, phrases}
 use Rattle.reply_writer.specs.ReadBack.{FaultsArePlain, IsPlainField, PhrasesArePlain}
-use Rattle.reply_writer.specs.Spelling.{field_of}
+use Rattle.reply_writer.specs.Spelling.{named_field}
 use Rattle.reply_writer.proofs.ReadBackLaws.{plain_by_tests}
 
 -- `_` stands for every other cause
@@ -33,7 +33,7 @@ pub phrases_are_plain : PhrasesArePlain
 phrases_are_plain code = AllPass-from_list_all is_value_byte (phrase_of code) (phrase_in_passes phrases code refl)
 
 abbrev text_fields : List Field
-text_fields = field_of (codes "Content-Type") (codes "text/plain") ∷ []
+text_fields = named_field (codes "Content-Type") (codes "text/plain") ∷ []
 
 text_is_plain : All IsPlainField text_fields
 unfolding is_token_byte trim_ows
@@ -41,15 +41,15 @@ text_is_plain =
     All-cons IsPlainField _ [] (plain_by_tests (codes "Content-Type") (codes "text/plain") refl refl refl) (All-nil IsPlainField)
 
 abbrev connection : Field
-connection = field_of (codes "Connection") (codes "Upgrade")
+connection = named_field (codes "Connection") (codes "Upgrade")
 
 abbrev version : Field
-version = field_of (codes "Sec-WebSocket-Version") (codes "13")
+version = named_field (codes "Sec-WebSocket-Version") (codes "13")
 
 upgrade_is_plain : (cause : Cause) → All IsPlainField (upgrade_fields cause)
 unfolding is_token_byte trim_ows
 upgrade_is_plain UpgradeNeeded =
-    All-cons IsPlainField (field_of (codes "Upgrade") (codes "websocket")) (connection ∷ version ∷ [])
+    All-cons IsPlainField (named_field (codes "Upgrade") (codes "websocket")) (connection ∷ version ∷ [])
     (plain_by_tests (codes "Upgrade") (codes "websocket") refl refl refl)
     (All-cons IsPlainField connection (version ∷ [])
     (plain_by_tests (codes "Connection") (codes "Upgrade") refl refl refl)

@@ -1,4 +1,15 @@
+pub mod ChunkFoundLaws
+pub mod ChunkLaws
+pub mod ChunkReadLaws
+pub mod Computed
+pub mod DateLaws
+pub mod DatePlainLaws
+pub mod DateStandLaws
 pub mod FaultLaws
+pub mod FrontLaws
 pub mod NumberLaws
+pub mod OnLiterals
 pub mod ReadBackLaws
 pub mod ReadEndLaws
+pub mod WholeEndLaws
+pub mod WholeLaws

@@ -1,6 +1,6 @@
 -- The text of a plain reply as a head of the response grammar.
-use Rattle.std.proofs.Common.{◌≡◌, ℕ, Bool, true, false, List, [], ◌∷◌, ◌++◌, length, refl, arith, append_assoc, decimal, Some, codes, map, reverse, flat_map}
-use Rattle.std.specs.Prelude.{IsTrue, All, nat_lt}
+use Rattle.std.proofs.Common.{◌≡◌, ℕ, Bool, true, false, List, [], ◌∷◌, ◌++◌, length, refl, arith, append_assoc, decimal, Option, Some, None, codes, map, reverse, flat_map}
+use Rattle.std.specs.Prelude.{IsTrue, All, nat_lt, count_by, ◌==◌, if◌then◌else◌}
 use Rattle.std.specs.List.{list_all}
 use Rattle.std.specs.Char.{is_ascii_digit}
 use Rattle.std.proofs.lemmas.Bool.{and_parts, ltb-true}
@@ -14,10 +14,11 @@ use Rattle.httparse.proofs.TrimLemmas.{AllPass-reverse}
 use Rattle.std.proofs.lemmas.List.{reverse-reverse}
 use Rattle.host_base.specs.declared.fields.Field.{Field}
 use Rattle.host_base.specs.declared.reply.Reply.{Reply}
+use Rattle.host_base.specs.FieldLists.{is_named}
 use Rattle.reply_writer.specs.declared.shape.Shape.{Shape}
 use Rattle.reply_writer.specs.declared.shape.Shape.TheVariants.{Bare, Length, Chunked, ToClose}
-use Rattle.reply_writer.specs.ReadBack.{HeadsReadBack, IsPlainField, IsPlainReply, WholesReadBack, read_field}
-use Rattle.reply_writer.specs.Spelling.{closing_fields, field_line, field_of, framing_fields, head_fields, head_text_of, status_line, whole_content, whole_shape}
+use Rattle.reply_writer.specs.ReadBack.{HeadsReadBack, IsPlainDate, IsPlainField, IsPlainReply, ReadsBack, WholesReadBack, read_field}
+use Rattle.reply_writer.specs.Spelling.{closing_fields, dated, field_line, named_field, framing_fields, head_fields, head_text_of, status_line, whole_content, whole_shape}
 use Rattle.reply_writer.proofs.NumberLaws.{decimal_digits, digits_value-decimal, three_digits}
 
 -- ---- fields
@@ -55,7 +56,7 @@ read_all_written (f ∷ fields) plain =
 
 -- ---- the fields that the host adds are plain
 
-token_by_test : (name : List ℕ) → is_token name ≡ true → IsToken name
+pub token_by_test : (name : List ℕ) → is_token name ≡ true → IsToken name
 token_by_test name named =
     let both = and_parts (nat_lt 0 (length name)) (list_all is_token_byte name) named in
     (ltb-true 0 (length name) both.0, AllPass-from_list_all is_token_byte name both.1)
@@ -78,14 +79,14 @@ trim_digits text all =
 
 -- a field that passes the tests is plain
 pub plain_by_tests : (name value : List ℕ) → is_token name ≡ true → list_all is_value_byte value ≡ true
-    → trim_ows value ≡ value → IsPlainField (field_of name value)
+    → trim_ows value ≡ value → IsPlainField (named_field name value)
 plain_by_tests name value named valued trimmed = record {
   name = token_by_test name named;
   value = AllPass-from_list_all is_value_byte value valued;
   trimmed = trimmed;
 }
 
-length_is_plain : (n : ℕ) → IsPlainField (field_of (codes "Content-Length") (decimal n))
+length_is_plain : (n : ℕ) → IsPlainField (named_field (codes "Content-Length") (decimal n))
 unfolding is_token_byte
 length_is_plain n = record {
   name = token_by_test (codes "Content-Length") refl;
@@ -93,11 +94,11 @@ length_is_plain n = record {
   trimmed = trim_digits (decimal n) (decimal_digits n);
 }
 
-chunked_is_plain : IsPlainField (field_of (codes "Transfer-Encoding") (codes "chunked"))
+chunked_is_plain : IsPlainField (named_field (codes "Transfer-Encoding") (codes "chunked"))
 unfolding is_token_byte trim_ows
 chunked_is_plain = plain_by_tests (codes "Transfer-Encoding") (codes "chunked") refl refl refl
 
-close_is_plain : IsPlainField (field_of (codes "Connection") (codes "close"))
+close_is_plain : IsPlainField (named_field (codes "Connection") (codes "close"))
 unfolding is_token_byte trim_ows
 close_is_plain = plain_by_tests (codes "Connection") (codes "close") refl refl refl
 
@@ -151,8 +152,24 @@ written_is_head reply fields plain each = record {
   fields = written_are_fields fields each;
 }
 
-pub heads_read_back : HeadsReadBack
-heads_read_back reply shape close rest plain =
+-- the reply's own fields and its Date are plain
+dated_is_plain : (date : Option (List ℕ)) (reply : Reply) → IsPlainDate date → IsPlainReply reply → IsPlainReply (dated date reply)
+dated_is_plain None reply plain_date plain = plain
+dated_is_plain (Some date) reply plain_date plain = by_test (count_by (is_named (codes "Date")) reply.fields == 0)
+  where
+    by_test : (b : Bool)
+        → IsPlainReply (record reply { fields = (if b then reply.fields ++ named_field (codes "Date") date ∷ [] else reply.fields) })
+    by_test true = record {
+      least = plain.least;
+      greatest = plain.greatest;
+      phrase = plain.phrase;
+      fields = All-append IsPlainField reply.fields _ plain.fields (All-cons IsPlainField _ [] plain_date (All-nil IsPlainField));
+    }
+    by_test false = plain
+
+own_head_reads_back : (reply : Reply) (shape : Shape) (close : Bool) (rest : List ℕ) → IsPlainReply reply
+    → ReadsBack (head_text_of reply shape close ++ rest) reply (head_fields reply shape close) rest
+own_head_reads_back reply shape close rest plain =
     let fields = head_fields reply shape close in
     let each = head_is_plain reply shape close plain in
     let head = written_head reply fields in
@@ -168,6 +185,19 @@ heads_read_back reply shape close rest plain =
       alone = λ other more read. response_unique _ other head more rest read reads;
     }
 
+pub heads_read_back : HeadsReadBack
+heads_read_back reply shape close date rest plain plain_date =
+    let read = own_head_reads_back (dated date reply) shape close rest (dated_is_plain date reply plain_date plain) in
+    record {
+      head = read.head;
+      reads = read.reads;
+      version = read.version;
+      status = read.status;
+      phrase = read.phrase;
+      said = read.said;
+      alone = read.alone;
+    }
+
 pub wholes_read_back : WholesReadBack
-wholes_read_back reply head_only close =
-    heads_read_back reply (whole_shape reply head_only) close (whole_content reply head_only)
+wholes_read_back reply head_only close date =
+    heads_read_back reply (whole_shape reply head_only) close date (whole_content reply head_only)

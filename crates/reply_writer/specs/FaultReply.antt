@@ -6,14 +6,14 @@ use Rattle.host_base.specs.declared.fields.Field.{Field}
 use Rattle.host_base.specs.declared.reply.Reply.{Reply}
 use Rattle.host_base.specs.CauseText.{status_of, text_of}
 use Rattle.reply_writer.specs.Phrases.{phrase_of}
-use Rattle.reply_writer.specs.Spelling.{field_of}
+use Rattle.reply_writer.specs.Spelling.{named_field}
 
 -- what a client that must upgrade is told (RFC 9110 7.8 and 15.5.22; RFC 6455 4.4)
 abbrev pub upgrade_fields : Cause → List Field
 upgrade_fields UpgradeNeeded =
-    field_of (codes "Upgrade") (codes "websocket")
-    ∷ field_of (codes "Connection") (codes "Upgrade")
-    ∷ field_of (codes "Sec-WebSocket-Version") (codes "13")
+    named_field (codes "Upgrade") (codes "websocket")
+    ∷ named_field (codes "Connection") (codes "Upgrade")
+    ∷ named_field (codes "Sec-WebSocket-Version") (codes "13")
     ∷ []
 upgrade_fields _ = []
 
@@ -26,6 +26,6 @@ abbrev pub fault_reply_of : Cause → Reply
 fault_reply_of cause = record {
   status = status_of cause;
   phrase = phrase_of (status_of cause);
-  fields = upgrade_fields cause ++ field_of (codes "Content-Type") (codes "text/plain") ∷ [];
+  fields = upgrade_fields cause ++ named_field (codes "Content-Type") (codes "text/plain") ∷ [];
   body = text_of cause ++ text_number cause ++ codes "\n";
 }

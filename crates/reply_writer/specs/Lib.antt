@@ -1,5 +1,12 @@
+pub mod ChunkRules
+pub mod Chunks
+pub mod CutReply
+pub mod DateRules
+pub mod Dates
 pub mod FaultReply
 pub mod Phrases
 pub mod ReadBack
 pub mod ReadEnd
 pub mod Spelling
+pub mod WholeReply
+pub mod WholeRules

@@ -1,8 +1,9 @@
--- How a reply is spelled (RFC 9112 2.1, 4, 5 and 6).
-use Rattle.std.specs.Prelude.{ℕ, ◌≡◌, ◌⊎◌, Bool, false, true, ◌||◌, ◌==◌, if◌then◌else◌, List, [], ◌∷◌, ◌++◌, length, flat_map, codes, decimal}
+-- How the head of a reply is spelled, and a reply whose length is told (RFC 9112 2.1, 4, 5 and 6).
+use Rattle.std.specs.Prelude.{ℕ, Bool, ◌||◌, ◌==◌, if◌then◌else◌, List, [], ◌∷◌, ◌++◌, length, flat_map, count_by, codes, decimal, Option, Some, None, option_map}
 use Rattle.host_base.specs.declared.fields.Field.{Field}
 use Rattle.host_base.specs.declared.reply.Reply.{Reply}
-use Rattle.host_base.specs.declared.request.Version.{Version}
+use Rattle.host_base.specs.FieldLists.{is_named}
+use Rattle.reply_writer.specs.declared.date.DateText.{DateText}
 use Rattle.reply_writer.specs.declared.shape.Shape.{Shape}
 use Rattle.reply_writer.specs.declared.shape.Shape.TheVariants.{Bare, Length, Chunked, ToClose}
 
@@ -14,19 +15,19 @@ status_line reply = codes "HTTP/1.1 " ++ decimal reply.status ++ codes " " ++ re
 abbrev pub field_line : Field → List ℕ
 field_line f = f.name ++ codes ": " ++ f.value ++ codes "\r\n"
 
-abbrev pub field_of : List ℕ → List ℕ → Field
-field_of name value = record { name = name; value = value }
+abbrev pub named_field : List ℕ → List ℕ → Field
+named_field name value = record { name = name; value = value }
 
 -- the field that says where the body ends, if one does (RFC 9112 6.1 and 6.2)
 abbrev pub framing_fields : Shape → List Field
 framing_fields Bare = []
-framing_fields (Length n) = field_of (codes "Content-Length") (decimal n) ∷ []
-framing_fields Chunked = field_of (codes "Transfer-Encoding") (codes "chunked") ∷ []
+framing_fields (Length n) = named_field (codes "Content-Length") (decimal n) ∷ []
+framing_fields Chunked = named_field (codes "Transfer-Encoding") (codes "chunked") ∷ []
 framing_fields ToClose = []
 
 -- the field that says that this reply is the last of its connection (RFC 9112 9.6)
 abbrev pub closing_fields : Bool → List Field
-closing_fields close = if close then field_of (codes "Connection") (codes "close") ∷ [] else []
+closing_fields close = if close then named_field (codes "Connection") (codes "close") ∷ [] else []
 
 -- the fields of the head: those of the reply, then what frames it, then what closes it
 abbrev pub head_fields : Reply → Shape → Bool → List Field
@@ -36,6 +37,24 @@ head_fields reply shape close = reply.fields ++ framing_fields shape ++ closing_
 abbrev pub head_text_of : Reply → Shape → Bool → List ℕ
 head_text_of reply shape close =
     status_line reply ++ flat_map field_line (head_fields reply shape close) ++ codes "\r\n"
+
+-- ---- the Date
+
+-- the bytes of a date, if there is one
+abbrev pub date_value : Option DateText → Option (List ℕ)
+date_value date = option_map (λ (d : DateText). d.text) date
+
+-- these fields, and after them the Date, if there is one and none of them is named so (RFC 9110 6.6.1)
+abbrev pub dated_fields : Option (List ℕ) → List Field → List Field
+dated_fields None fields = fields
+dated_fields (Some date) fields =
+    if count_by (is_named (codes "Date")) fields == 0 then fields ++ named_field (codes "Date") date ∷ [] else fields
+
+-- the reply with its Date
+abbrev pub dated : Option (List ℕ) → Reply → Reply
+dated date reply = record reply { fields = dated_fields date reply.fields }
+
+-- ---- a reply that is known as a whole
 
 -- whether nothing follows the head: after HEAD, and with 204 or 304 (RFC 9110 6.4.1; RFC 9112 6.3)
 abbrev pub is_head_alone : Reply → Bool → Bool
@@ -53,18 +72,3 @@ whole_content reply head_only = if is_head_alone reply head_only then [] else re
 abbrev pub whole_text_of : Reply → Bool → Bool → List ℕ
 whole_text_of reply head_only close =
     head_text_of reply (whole_shape reply head_only) close ++ whole_content reply head_only
-
--- bytes are a head and nothing else, for a reply that has nothing else
-pub record SpellsHead (bytes : List ℕ) (reply : Reply) (head_only close : Bool) : Type 0 where
-  pub alone : is_head_alone reply head_only ≡ true
-  pub text : bytes ≡ head_text_of reply Bare close
-
--- bytes are a head with the length of the body, and the body
-pub record SpellsLength (bytes : List ℕ) (reply : Reply) (head_only close : Bool) : Type 0 where
-  pub followed : is_head_alone reply head_only ≡ false
-  pub text : bytes ≡ head_text_of reply (Length (length reply.body)) close ++ reply.body
-
--- Bytes are a spelling of the reply to a request of that version. So far the version makes no difference.
-abbrev pub Spells : List ℕ → Reply → Version → Bool → Bool → Type 0
-Spells bytes reply version head_only close =
-    SpellsHead bytes reply head_only close ⊎ SpellsLength bytes reply head_only close

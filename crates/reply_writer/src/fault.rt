@@ -2,7 +2,7 @@
 ghost use Rattle.std.specs.Prelude.{◌≡◌, [], ◌∷◌, ◌++◌, codes, IfOk, OnOk};
 ghost use Rattle.host_base.specs.CauseText.{text_of};
 ghost use Rattle.reply_writer.specs.FaultReply.{fault_reply_of, text_number, upgrade_fields};
-ghost use Rattle.reply_writer.specs.Spelling.{field_of};
+ghost use Rattle.reply_writer.specs.Spelling.{named_field};
 
 use super::phrases::phrase;
 use super::text::push_number;
@@ -54,7 +54,7 @@ fn push_upgrade_fields(alloc: Global, fields: &mut Fields) -> Result<(), NoMemor
 }
 
 fn push_field(alloc: Global, fields: &mut Fields, name: &[u8], value: &[u8]) -> Result<(), NoMemory>
-    ensures { OnOk result (fields.new ≡ fields.old ++ field_of name.now value.now ∷ []) }
+    ensures { OnOk result (fields.new ≡ fields.old ++ named_field name.now value.now ∷ []) }
 {
     let name = Bytes::from_slice(alloc, name)?;
     let value = Bytes::from_slice(alloc, value)?;

@@ -1,11 +1,13 @@
 // The host's own replies, the phrases, and replies whose text other programs know.
-use crate::{Shape, fault_reply, head_text, phrase, whole_text};
+use crate::{
+    DATES_END, END_MARK, Shape, chunk_text, date_text, fault_reply, head_text, phrase, whole_text,
+};
 use host_base::{Bytes, Cause, Field, Fields, NoMemory, Reply};
 use std::alloc::Global;
 use std::test::Fail;
 
 // A cause, the status code and the phrase of its reply, its text, and how long that is with its line end.
-const CAUSES: [(Cause, &str, &str, u32); 36] = [
+const CAUSES: [(Cause, &str, &str, u32); 40] = [
     (Cause::BadHead, "400 Bad Request", "bad request head", 17),
     (
         Cause::Incomplete,
@@ -24,6 +26,9 @@ const CAUSES: [(Cause, &str, &str, u32); 36] = [
         "bad websocket handshake",
         24,
     ),
+    (Cause::BadScgi, "400 Bad Request", "bad scgi request", 17),
+    (Cause::BadParams, "400 Bad Request", "bad parameters", 15),
+    (Cause::BadRecord, "400 Bad Request", "bad record", 11),
     (Cause::OriginRefused, "403 Forbidden", "origin refused", 15),
     (
         Cause::NoScript,
@@ -54,6 +59,12 @@ const CAUSES: [(Cause, &str, &str, u32); 36] = [
         "417 Expectation Failed",
         "expectation not met",
         20,
+    ),
+    (
+        Cause::UnknownHost,
+        "421 Misdirected Request",
+        "host not served",
+        16,
     ),
     (
         Cause::HeadTooLong,
@@ -302,12 +313,59 @@ const REPLIES: [(u16, &str, &str, bool, bool, &str); 8] = [
     ),
 ];
 
+// The second of a date, and its text.
+const DATES: [(u64, &str); 6] = [
+    (0, "Thu, 01 Jan 1970 00:00:00 GMT"),
+    (784_111_777, "Sun, 06 Nov 1994 08:49:37 GMT"),
+    (951_782_400, "Tue, 29 Feb 2000 00:00:00 GMT"),
+    (951_868_799, "Tue, 29 Feb 2000 23:59:59 GMT"),
+    (4_107_542_400, "Mon, 01 Mar 2100 00:00:00 GMT"),
+    (253_402_300_799, "Fri, 31 Dec 9999 23:59:59 GMT"),
+];
+
+// What a script's own field after Content-Type is, and what the head has in its place at the second 784111777.
+const DATED: [(&str, &str); 6] = [
+    (
+        "X-Date: x\r\n",
+        "X-Date: x\r\nDate: Sun, 06 Nov 1994 08:49:37 GMT\r\n",
+    ),
+    (
+        "Dated: x\r\n",
+        "Dated: x\r\nDate: Sun, 06 Nov 1994 08:49:37 GMT\r\n",
+    ),
+    (
+        "Dat: x\r\n",
+        "Dat: x\r\nDate: Sun, 06 Nov 1994 08:49:37 GMT\r\n",
+    ),
+    ("Date: x\r\n", "Date: x\r\n"),
+    ("date: x\r\n", "date: x\r\n"),
+    ("DATE: x\r\n", "DATE: x\r\n"),
+];
+
+// How many bytes a chunk has, and what stands for that.
+const SIZES: [(usize, &str); 10] = [
+    (1, "1"),
+    (9, "9"),
+    (10, "a"),
+    (15, "f"),
+    (16, "10"),
+    (31, "1f"),
+    (255, "ff"),
+    (256, "100"),
+    (4_095, "fff"),
+    (65_536, "10000"),
+];
+
+fn push(alloc: Global, fields: &mut Fields, name: &str, value: &str) -> Result<(), NoMemory> {
+    fields.push(Field {
+        name: Bytes::from_slice(alloc, name.as_bytes())?,
+        value: Bytes::from_slice(alloc, value.as_bytes())?,
+    })
+}
+
 fn reply(alloc: Global, status: u16, phrase: &str, body: &str) -> Result<Reply, NoMemory> {
     let mut fields = Fields::new(alloc);
-    fields.push(Field {
-        name: Bytes::from_slice(alloc, b"Content-Type")?,
-        value: Bytes::from_slice(alloc, b"text/plain")?,
-    })?;
+    push(alloc, &mut fields, "Content-Type", "text/plain")?;
     Ok(Reply {
         status,
         phrase: Bytes::from_slice(alloc, phrase.as_bytes())?,
@@ -320,12 +378,12 @@ fn reply(alloc: Global, status: u16, phrase: &str, body: &str) -> Result<Reply, 
 fn causes(rt: HostRuntime) -> Result<(), Fail> {
     for (cause, status, text, len) in CAUSES.iter() {
         let fault = fault_reply(rt.alloc(), *cause)?;
-        let to_get = whole_text(rt.alloc(), &fault, false, false)?;
+        let to_get = whole_text(rt.alloc(), &fault, false, false, None)?;
         let want = format!(in rt.alloc();
             "HTTP/1.1 {status}\r\nContent-Type: text/plain\r\nContent-Length: {len}\r\n\r\n{text}\n"
         )?;
         assert_eq!(rt; to_get.as_slice(), want.as_bytes(), "{text}");
-        let to_head = whole_text(rt.alloc(), &fault, true, true)?;
+        let to_head = whole_text(rt.alloc(), &fault, true, true, None)?;
         let want = format!(in rt.alloc();
             "HTTP/1.1 {status}\r\nContent-Type: text/plain\r\nConnection: close\r\n\r\n"
         )?;
@@ -337,12 +395,12 @@ fn causes(rt: HostRuntime) -> Result<(), Fail> {
 #[test]
 fn upgrade(rt: HostRuntime) -> Result<(), Fail> {
     let fault = fault_reply(rt.alloc(), Cause::UpgradeNeeded)?;
-    let to_get = whole_text(rt.alloc(), &fault, false, false)?;
+    let to_get = whole_text(rt.alloc(), &fault, false, false, None)?;
     assert_eq!(rt;
         to_get.as_slice(),
         b"HTTP/1.1 426 Upgrade Required\r\nUpgrade: websocket\r\nConnection: Upgrade\r\nSec-WebSocket-Version: 13\r\nContent-Type: text/plain\r\nContent-Length: 30\r\n\r\nwebsocket version 13 required\n".as_slice()
     );
-    let to_head = whole_text(rt.alloc(), &fault, true, false)?;
+    let to_head = whole_text(rt.alloc(), &fault, true, false, None)?;
     assert_eq!(rt;
         to_head.as_slice(),
         b"HTTP/1.1 426 Upgrade Required\r\nUpgrade: websocket\r\nConnection: Upgrade\r\nSec-WebSocket-Version: 13\r\nContent-Type: text/plain\r\n\r\n".as_slice()
@@ -361,7 +419,7 @@ fn phrases(rt: HostRuntime) {
 fn replies(rt: HostRuntime) -> Result<(), Fail> {
     for (status, phrase, body, head_only, close, want) in REPLIES.iter() {
         let spoken = reply(rt.alloc(), *status, phrase, body)?;
-        let text = whole_text(rt.alloc(), &spoken, *head_only, *close)?;
+        let text = whole_text(rt.alloc(), &spoken, *head_only, *close, None)?;
         assert_eq!(rt; text.as_slice(), want.as_bytes(), "at {status}");
     }
     Ok(())
@@ -380,11 +438,62 @@ fn shapes(rt: HostRuntime) -> Result<(), Fail> {
         (Shape::ToClose, ""),
     ];
     for (shape, framing) in table.iter() {
-        let head = head_text(rt.alloc(), &spoken, *shape, true)?;
+        let head = head_text(rt.alloc(), &spoken, *shape, true, None)?;
         let want = format!(in rt.alloc();
             "HTTP/1.1 200 OK\r\nContent-Type: text/plain\r\n{framing}Connection: close\r\n\r\n"
         )?;
         assert_eq!(rt; head.as_slice(), want.as_bytes(), "{framing}");
     }
+    Ok(())
+}
+
+#[test]
+fn dates(rt: HostRuntime) {
+    assert_eq!(rt; DATES_END, 253_402_300_800);
+    for (secs, want) in DATES.iter() {
+        assert!(rt; *secs < DATES_END);
+        assert_eq!(rt; date_text(*secs).text.as_slice(), want.as_bytes(), "{want}");
+    }
+}
+
+#[test]
+fn dated(rt: HostRuntime) -> Result<(), Fail> {
+    let date = date_text(784_111_777);
+    for (own, said) in DATED.iter() {
+        let mut spoken = reply(rt.alloc(), 200, "OK", "hi\n")?;
+        let name = own.split_once(": ").map_or("", |parts| parts.0);
+        push(rt.alloc(), &mut spoken.fields, name, "x")?;
+        let text = whole_text(rt.alloc(), &spoken, false, false, Some(&date))?;
+        let want = format!(in rt.alloc();
+            "HTTP/1.1 200 OK\r\nContent-Type: text/plain\r\n{said}Content-Length: 3\r\n\r\nhi\n"
+        )?;
+        assert_eq!(rt; text.as_slice(), want.as_bytes(), "{own}");
+    }
+    let spoken = reply(rt.alloc(), 204, "No Content", "")?;
+    assert_eq!(rt;
+        whole_text(rt.alloc(), &spoken, false, false, Some(&date))?.as_slice(),
+        b"HTTP/1.1 204 No Content\r\nContent-Type: text/plain\r\nDate: Sun, 06 Nov 1994 08:49:37 GMT\r\n\r\n".as_slice()
+    );
+    let late = fault_reply(rt.alloc(), Cause::RunTime)?;
+    assert_eq!(rt;
+        whole_text(rt.alloc(), &late, false, true, Some(&date))?.as_slice(),
+        b"HTTP/1.1 504 Gateway Timeout\r\nContent-Type: text/plain\r\nDate: Sun, 06 Nov 1994 08:49:37 GMT\r\nContent-Length: 21\r\nConnection: close\r\n\r\nscript took too long\n".as_slice()
+    );
+    Ok(())
+}
+
+#[test]
+fn chunks(rt: HostRuntime) -> Result<(), Fail> {
+    for (size, digits) in SIZES.iter() {
+        let piece = vec![in rt.alloc(); b'x'; *size]?;
+        assert!(rt; !piece.is_empty());
+        let mut want = Bytes::from_slice(rt.alloc(), digits.as_bytes())?;
+        want.extend_from_slice(b"\r\n")?;
+        want.extend_from_slice(piece.as_slice())?;
+        want.extend_from_slice(b"\r\n")?;
+        let text = chunk_text(rt.alloc(), piece.as_slice())?;
+        assert_eq!(rt; text.as_slice(), want.as_slice(), "{digits}");
+    }
+    assert_eq!(rt; END_MARK, b"0\r\n\r\n".as_slice());
     Ok(())
 }

@@ -1,46 +1,66 @@
 // The text of a head and of a whole reply.
-ghost use Rattle.std.specs.Prelude.{◌≡◌, ◌+◌, ◌-◌, ◌^◌, ◌++◌, min, length, flat_map, codes, decimal, IfOk, OnOk};
+ghost use Rattle.std.specs.Prelude.{◌≡◌, ◌+◌, ◌-◌, ◌^◌, ◌++◌, min, length, flat_map, codes, decimal, IfOk, OnOk, ℕ, Option, option_copied, option_map};
 ghost use Rattle.host_base.specs.declared.request.Version.{Version};
-ghost use Rattle.reply_writer.specs.Spelling.{Spells, closing_fields, field_line, framing_fields, head_text_of, is_head_alone, status_line, whole_text_of};
+ghost use Rattle.reply_writer.specs.Dates.{date_text_of};
+ghost use Rattle.reply_writer.specs.Spelling.{closing_fields, date_value, dated, dated_fields, field_line, framing_fields, head_text_of, is_head_alone, status_line, whole_text_of};
+ghost use Rattle.reply_writer.specs.WholeReply.{Spells};
+ghost use Rattle.reply_writer.specs.WholeRules.{known_way};
 
-use super::Shape;
-use host_base::{Bytes, Field, NoMemory, Reply};
+use super::{DateText, Shape};
+use host_base::{Bytes, Field, Fields, NoMemory, Reply};
 use itoa::Buffer;
 use std::alloc::Global;
 
-// Room for the status line without its phrase, 17 bytes at most, the framing field, 38 at most,
-// `Connection: close`, 19, and the empty line, 2.
-const FIXED_ROOM: usize = 76;
+// Room for the status line without its phrase, 17 bytes at most, the Date field, 37, the framing field, 38 at
+// most, `Connection: close`, 19, and the empty line, 2.
+const FIXED_ROOM: usize = 113;
+
+// What stands in a field line beside the name and the value: `: ` and the line end.
+const LINE_ROOM: usize = 4;
+
+// Statuses whose replies have no body (RFC 9110 15.3.5 and 15.4.5).
+const NO_CONTENT: u16 = 204;
+
+const NOT_MODIFIED: u16 = 304;
 
 // What ends a head (RFC 9112 2.1).
 const EMPTY_LINE: &[u8] = b"\r\n";
 
 /// The text of a reply's head, up to and with the empty line (RFC 9112 2.1). `shape` says how what
-/// follows is framed, `close` whether the connection closes after this reply (RFC 9112 9.6).
-pub fn head_text(alloc: Global, reply: &Reply, shape: Shape, close: bool) -> Result<Bytes, NoMemory>
-    ensures { IfOk result (λ text. text ≡ head_text_of reply.now shape close) }
+/// follows is framed, `close` whether the connection closes after this reply (RFC 9112 9.6). The date
+/// stands after the reply's fields, unless one of these is named Date (RFC 9110 6.6.1).
+pub fn head_text(
+    alloc: Global,
+    reply: &Reply,
+    shape: Shape,
+    close: bool,
+    date: Option<&DateText>,
+) -> Result<Bytes, NoMemory>
+    ensures { IfOk result (λ text. text ≡ head_text_of (dated (date_value (option_copied date.entry)) reply.now) shape close) }
 {
     let mut text = Bytes::with_capacity(alloc, head_room(reply))?;
-    push_head(&mut text, reply, shape, close)?;
+    push_head(&mut text, reply, shape, close, date)?;
     Ok(text)
 }
 
 /// The text of a whole reply: its head with `Content-Length`, and its body. `head_only` says that the
 /// reply is to HEAD: then, as with 204 and 304, the head stands alone and has no framing field
-/// (RFC 9110 6.4.1, RFC 9112 6.3). `close` is that of `head_text`.
+/// (RFC 9110 6.4.1, RFC 9112 6.3). `close` and `date` are those of `head_text`.
 pub fn whole_text(
     alloc: Global,
     reply: &Reply,
     head_only: bool,
     close: bool,
+    date: Option<&DateText>,
 ) -> Result<Bytes, NoMemory>
-    ensures text { IfOk result (λ text. text ≡ whole_text_of reply.now head_only close) }
-    ensures spells { IfOk result (λ text. (version : Version) → Spells text reply.now version head_only close) }
+    ensures text { IfOk result (λ text. text ≡ whole_text_of (dated (date_value (option_copied date.entry)) reply.now) head_only close) }
+    ensures spells { IfOk result (λ text. (version : Version) (stamp : Option ℕ) → date_value (option_copied date.entry) ≡ option_map date_text_of stamp
+        → Spells text (known_way version head_only close stamp) reply.now) }
 {
     if stands_alone(reply, head_only) {
-        head_text(alloc, reply, Shape::Bare, close)
+        head_text(alloc, reply, Shape::Bare, close, date)
     } else {
-        text_with_body(alloc, reply, close)
+        text_with_body(alloc, reply, close, date)
     }
 }
 
@@ -48,16 +68,27 @@ pub fn whole_text(
 fn stands_alone(reply: &Reply, head_only: bool) -> bool
     ensures { result ≡ is_head_alone reply.now head_only }
 {
-    head_only || reply.status == 204 || reply.status == 304
+    head_only || reply.status == NO_CONTENT || reply.status == NOT_MODIFIED
 }
 
-fn text_with_body(alloc: Global, reply: &Reply, close: bool) -> Result<Bytes, NoMemory>
-    ensures { IfOk result (λ text. text ≡ head_text_of reply.now (Shape.Length (length reply.now.body)) close ++ reply.now.body) }
+fn text_with_body(
+    alloc: Global,
+    reply: &Reply,
+    close: bool,
+    date: Option<&DateText>,
+) -> Result<Bytes, NoMemory>
+    ensures { IfOk result (λ text. text ≡ head_text_of (dated (date_value (option_copied date.entry)) reply.now) (Shape.Length (length reply.now.body)) close ++ reply.now.body) }
 {
     let body = reply.body.as_slice();
     let room = head_room(reply).saturating_add(body.len());
     let mut text = Bytes::with_capacity(alloc, room)?;
-    push_head(&mut text, reply, Shape::Length(body.len() as u64), close)?;
+    push_head(
+        &mut text,
+        reply,
+        Shape::Length(body.len() as u64),
+        close,
+        date,
+    )?;
     text.extend_from_slice(body)?;
     Ok(text)
 }
@@ -80,16 +111,22 @@ fn fields_len(fields: &[Field]) -> usize
         len = len
             .saturating_add(field.name.len())
             .saturating_add(field.value.len())
-            .saturating_add(4);
+            .saturating_add(LINE_ROOM);
     }
     len
 }
 
-fn push_head(text: &mut Bytes, reply: &Reply, shape: Shape, close: bool) -> Result<(), NoMemory>
-    ensures { OnOk result (text.new ≡ text.old ++ head_text_of reply.now shape close) }
+fn push_head(
+    text: &mut Bytes,
+    reply: &Reply,
+    shape: Shape,
+    close: bool,
+    date: Option<&DateText>,
+) -> Result<(), NoMemory>
+    ensures { OnOk result (text.new ≡ text.old ++ head_text_of (dated (date_value (option_copied date.entry)) reply.now) shape close) }
 {
     push_status_line(text, reply)?;
-    push_fields(text, reply.fields.as_slice())?;
+    push_dated_fields(text, &reply.fields, date)?;
     push_framing(text, shape)?;
     push_closing(text, close)?;
     text.extend_from_slice(EMPTY_LINE)
@@ -112,6 +149,21 @@ fn push_fields(text: &mut Bytes, fields: &[Field]) -> Result<(), NoMemory>
         push_field(text, field.name.as_slice(), field.value.as_slice())?;
     }
     Ok(())
+}
+
+// The field lines, and after them the Date where it is wanted.
+fn push_dated_fields(
+    text: &mut Bytes,
+    fields: &Fields,
+    date: Option<&DateText>,
+) -> Result<(), NoMemory>
+    ensures { OnOk result (text.new ≡ text.old ++ flat_map field_line (dated_fields (date_value (option_copied date.entry)) fields.now)) }
+{
+    push_fields(text, fields.as_slice())?;
+    match date {
+        Some(date) if fields.count_named(b"Date") == 0 => push_field(text, b"Date", &date.text),
+        _ => Ok(()),
+    }
 }
 
 fn push_framing(text: &mut Bytes, shape: Shape) -> Result<(), NoMemory>

@@ -1,2 +1,7 @@
+pub mod Expect
+pub mod Bodies
 pub mod ReadingLaws
-pub mod ReaderLaws
+pub mod LookLaws
+pub mod Becoming
+pub mod HeardLaws
+pub mod RequestLaws

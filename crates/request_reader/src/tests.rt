@@ -1,254 +1,38 @@
 // What a reader answers: whole, byte by byte, and cut in two at each place.
-use crate::{ReqReader, ReqStep, persists};
-use host_base::{Cause, Limits, NoMemory};
+mod tables;
+
+use crate::{ReqReader, ReqStep, persists, redirected};
+use host_base::{Bytes, Cause, Limits, NoMemory, Request, Target};
 use std::alloc::Global;
-
-// Bytes, the paths of the whole requests in them, whether another one has begun, and how many bytes are
-// left for it.
-const REQUESTS: [(&[u8], &[&[u8]], bool, usize); 17] = [
-    (b"", &[], false, 0),
-    (b"\r", &[], false, 1),
-    (b"\r\n", &[], false, 2),
-    (b"\rG", &[], true, 2),
-    (b"\r\nG", &[], true, 3),
-    (b"G", &[], true, 1),
-    (b"GET / HTTP/1.1\r\nHost: a\r\n\r", &[], true, 26),
-    (b"GET / HTTP/1.1\r\nHost: a\r\n\r\n", &[b"/"], false, 0),
-    (b"\r\nGET / HTTP/1.1\nHost: a\n\n\r", &[b"/"], false, 1),
-    (b"GET / HTTP/1.1\r\nHost: a\r\n\r\n\r\n", &[b"/"], false, 2),
-    (
-        b"GET /a HTTP/1.1\r\nHost: a\r\n\r\n\r\nPUT /b HTTP/1.0\r\nHost: a\r\n\r\nGE",
-        &[b"/a", b"/b"],
-        true,
-        2,
-    ),
-    (
-        b"HEAD / HTTP/1.1\r\nHost:\r\nConnection: close\r\n\r\n",
-        &[b"/"],
-        false,
-        0,
-    ),
-    (b"GET /a/../../b/./c HTTP/1.0\r\n\r\n", &[b"/b/c"], false, 0),
-    (
-        b"GET HTTP://b:80?c HTTP/1.1\r\nHost: a\r\n\r\n",
-        &[b"/"],
-        false,
-        0,
-    ),
-    (
-        b"GET http://b/%2e%2e/ HTTP/1.1\r\nHost: a\r\n\r\n",
-        &[b"/%2e%2e/"],
-        false,
-        0,
-    ),
-    (
-        b"GET /? HTTP/1.1\r\nHost: [::1]:\r\n\r\n",
-        &[b"/"],
-        false,
-        0,
-    ),
-    (
-        b"GET /..?/../a HTTP/1.1\r\nHost: %41:80\r\n\r\nX",
-        &[b"/"],
-        true,
-        1,
-    ),
-];
-
-// Bytes that are no request that is served, the cause, and whether a reply has no body.
-const FAULTS: [(&[u8], Cause, bool); 31] = [
-    (b"\r\n\r\n", Cause::BadHead, false),
-    (b"HEAD / HTTP/3.0\r\n\r\n", Cause::BadHead, false),
-    (b"GET / HTTP/1.1\r\n\r\n", Cause::BadHost, false),
-    (b"head / HTTP/1.1\r\n\r\n", Cause::BadHost, false),
-    (
-        b"HEAD / HTTP/1.1\r\nHost: a\r\nhost: a\r\n\r\n",
-        Cause::BadHost,
-        true,
-    ),
-    (
-        b"HEAD / HTTP/1.0\r\nHost: a\r\nHost: b\r\n\r\n",
-        Cause::BadHost,
-        true,
-    ),
-    (
-        b"GET / HTTP/1.1\r\nHost: a@b\r\n\r\n",
-        Cause::BadHost,
-        false,
-    ),
-    (
-        b"GET / HTTP/1.1\r\nHost: a:8x\r\n\r\n",
-        Cause::BadHost,
-        false,
-    ),
-    (
-        b"GET / HTTP/1.1\r\nHost: %4g\r\n\r\n",
-        Cause::BadHost,
-        false,
-    ),
-    (
-        b"GET / HTTP/1.1\r\nHost: [::1\r\n\r\n",
-        Cause::BadHost,
-        false,
-    ),
-    (
-        b"GET / HTTP/1.1\r\nHost: a b\r\n\r\n",
-        Cause::BadHost,
-        false,
-    ),
-    (
-        b"CONNECT a:1 HTTP/1.1\r\nHost: a\r\n\r\n",
-        Cause::NotServed,
-        false,
-    ),
-    (b"CONNECT a:1 HTTP/1.1\r\n\r\n", Cause::NotServed, false),
-    (
-        b"CONNECT a:1 HTTP/1.1\r\nHost: a\r\nHost: a\r\n\r\n",
-        Cause::NotServed,
-        false,
-    ),
-    (b"OPTIONS * HTTP/1.1\r\n\r\n", Cause::NotServed, false),
-    (
-        b"HEAD * HTTP/1.1\r\nHost: a\r\nHost: a\r\n\r\n",
-        Cause::NotServed,
-        true,
-    ),
-    (
-        b"GET a HTTP/1.1\r\nHost: a\r\n\r\n",
-        Cause::BadTarget,
-        false,
-    ),
-    (
-        b"GET /a#b HTTP/1.1\r\nHost: a\r\n\r\n",
-        Cause::BadTarget,
-        false,
-    ),
-    (
-        b"GET https://a/ HTTP/1.1\r\nHost: a\r\n\r\n",
-        Cause::BadTarget,
-        false,
-    ),
-    (
-        b"GET http:///a HTTP/1.1\r\nHost: a\r\n\r\n",
-        Cause::BadTarget,
-        false,
-    ),
-    (
-        b"GET http://a@b/ HTTP/1.1\r\nHost: a\r\n\r\n",
-        Cause::BadTarget,
-        false,
-    ),
-    (
-        b"HEAD a HTTP/1.1\r\nHost: a\r\n\r\n",
-        Cause::BadTarget,
-        true,
-    ),
-    (
-        b"POST / HTTP/1.1\r\nHost: a\r\nContent-Length: 3\r\n\r\nabc",
-        Cause::NotBuilt,
-        false,
-    ),
-    (
-        b"POST / HTTP/1.1\r\nHost: a\r\ncontent-length: x\r\n\r\n",
-        Cause::NotBuilt,
-        false,
-    ),
-    (
-        b"POST / HTTP/1.1\r\nHost: a\r\nTransfer-Encoding: chunked\r\n\r\n",
-        Cause::NotBuilt,
-        false,
-    ),
-    (
-        b"HEAD / HTTP/1.1\r\nHost: a\r\nTRANSFER-ENCODING:\r\n\r\n",
-        Cause::NotBuilt,
-        true,
-    ),
-    (
-        b"GET / HTTP/1.0\r\nExpect: 100-continue\r\n\r\n",
-        Cause::NotBuilt,
-        false,
-    ),
-    (
-        b"GET / HTTP/1.1\r\nHost: a\r\nA: b\r\nexpect:\r\n\r\n",
-        Cause::NotBuilt,
-        false,
-    ),
-    (
-        b"POST / HTTP/1.1\r\nContent-Length: 3\r\n\r\n",
-        Cause::BadHost,
-        false,
-    ),
-    (
-        b"POST a HTTP/1.1\r\nHost: a\r\nContent-Length: 3\r\n\r\n",
-        Cause::BadTarget,
-        false,
-    ),
-    (
-        b"CONNECT a HTTP/1.1\r\nContent-Length: 3\r\n\r\n",
-        Cause::NotServed,
-        false,
-    ),
-];
-
-// Heads, and whether another request may follow on the connection.
-const LASTING: [(&[u8], bool); 10] = [
-    (b"GET / HTTP/1.1\r\nHost: a\r\n\r\n", true),
-    (b"GET / HTTP/1.0\r\nHost: a\r\n\r\n", false),
-    (b"GET / HTTP/1.0\r\nConnection: keep-alive\r\n\r\n", false),
-    (
-        b"GET / HTTP/1.1\r\nHost: a\r\nConnection: close\r\n\r\n",
-        false,
-    ),
-    (
-        b"GET / HTTP/1.1\r\nHost: a\r\nCONNECTION: Close\r\n\r\n",
-        false,
-    ),
-    (
-        b"GET / HTTP/1.1\r\nHost: a\r\nConnection: upgrade,\tCLOSE ,\r\n\r\n",
-        false,
-    ),
-    (
-        b"GET / HTTP/1.1\r\nHost: a\r\nConnection: a\r\nConnection: close\r\n\r\n",
-        false,
-    ),
-    (
-        b"GET / HTTP/1.1\r\nHost: a\r\nConnection: closed, a close\r\n\r\n",
-        true,
-    ),
-    (b"GET / HTTP/1.1\r\nHost: a\r\nConnection: ,,\r\n\r\n", true),
-    (b"GET / HTTP/1.1\r\nHost: a\r\nClose: close\r\n\r\n", true),
-];
+use tables::{BAD_BODIES, FAULTS, LASTING, REQUESTS, SMUGGLED, UNENDED};
 
 fn least_limits() -> Limits {
     Limits {
         head: 1024,
         target: 64,
+        body: 40,
         ..Limits::default()
     }
 }
 
-// How many whole requests a reader gives from `given` on, where they have the paths that are due, and
-// the fault after them.
+// How many whole requests a reader gives from `given` on, where they have the paths and bodies that are
+// due, and the fault after them.
 fn given_now(
     reader: &mut ReqReader,
-    paths: &[&[u8]],
+    due: &[(&[u8], &[u8])],
     given: usize,
 ) -> Result<Option<(usize, Option<(Cause, bool)>)>, NoMemory> {
     let mut given = given;
-    for _ in 0..paths.len() + 1 {
+    for _ in 0..due.len() + 1 {
         match reader.step()? {
-            ReqStep::Whole(request) => match paths.get(given) {
-                Some(path) if request.target.path.as_slice() == *path => given += 1,
+            ReqStep::Whole(request) => match due.get(given) {
+                Some((path, body))
+                    if request.target.path.as_slice() == *path
+                        && request.body.as_slice() == *body => { given += 1 }
                 Some(_) => return Ok(None),
                 None => return Ok(None),
             },
-            ReqStep::More { continue_due } => {
-                return Ok(if continue_due {
-                    None
-                } else {
-                    Some((given, None))
-                });
-            }
+            ReqStep::More { .. } => return Ok(Some((given, None))),
             ReqStep::Bad { cause, bare } => return Ok(Some((given, Some((cause, bare))))),
         }
     }
@@ -261,53 +45,54 @@ fn is_answered(
     alloc: Global,
     cut: (usize, usize),
     text: &[u8],
-    paths: &[&[u8]],
+    due: &[(&[u8], &[u8])],
     fault: Option<(Cause, bool)>,
-    left: (bool, usize),
+    left: Option<(bool, usize)>,
 ) -> Result<bool, NoMemory> {
     let mut reader = ReqReader::new(alloc, &least_limits());
-    let mut now = given_now(&mut reader, paths, 0)?;
+    let mut now = given_now(&mut reader, due, 0)?;
     let (first, rest) = text.split_at(cut.0.min(text.len()));
     reader.feed(first)?;
     for piece in rest.chunks(cut.1.max(1)) {
         let Some((given, _)) = now else {
             return Ok(false);
         };
-        now = given_now(&mut reader, paths, given)?;
+        now = given_now(&mut reader, due, given)?;
         reader.feed(piece)?;
     }
     let Some((given, _)) = now else {
         return Ok(false);
     };
-    let end = given_now(&mut reader, paths, given)?;
-    Ok(
-        end == Some((paths.len(), fault))
-            && reader.begun() == left.0
-            && text.ends_with(reader.rest())
-            && reader.rest().len() == left.1,
-    )
+    let end = given_now(&mut reader, due, given)?;
+    let is_left = match left {
+        Some((begun, len)) => {
+            reader.begun() == begun && text.ends_with(reader.rest()) && reader.rest().len() == len
+        }
+        None => reader.begun(),
+    };
+    Ok(end == Some((due.len(), fault)) && is_left)
 }
 
 // Whether it has them whole, byte by byte, and cut in two at each place.
 fn is_answered_however_cut(
     alloc: Global,
     text: &[u8],
-    paths: &[&[u8]],
+    due: &[(&[u8], &[u8])],
     fault: Option<(Cause, bool)>,
-    left: (bool, usize),
+    left: Option<(bool, usize)>,
 ) -> Result<bool, NoMemory> {
     for first in 0..text.len() + 1 {
-        if !is_answered(alloc, (first, text.len()), text, paths, fault, left)? {
+        if !is_answered(alloc, (first, text.len()), text, due, fault, left)? {
             return Ok(false);
         }
     }
-    is_answered(alloc, (0, 1), text, paths, fault, left)
+    is_answered(alloc, (0, 1), text, due, fault, left)
 }
 
 #[test]
 fn requests_one_after_another(rt: HostRuntime) {
-    for (text, paths, begun, rest) in REQUESTS.iter() {
-        let right = is_answered_however_cut(rt.alloc(), text, paths, None, (*begun, *rest));
+    for (text, due, begun, rest) in REQUESTS.iter() {
+        let right = is_answered_however_cut(rt.alloc(), text, due, None, Some((*begun, *rest)));
         assert!(&rt; right == Ok(true), "{}", text.len());
     }
 }
@@ -315,18 +100,121 @@ fn requests_one_after_another(rt: HostRuntime) {
 #[test]
 fn faults_stay_and_keep_their_bytes(rt: HostRuntime) {
     for (text, cause, bare) in FAULTS.iter() {
-        let left = (true, text.len());
+        let left = Some((true, text.len()));
         let right = is_answered_however_cut(rt.alloc(), text, &[], Some((*cause, *bare)), left);
         assert!(&rt; right == Ok(true), "{}", text.len());
     }
 }
 
+#[test]
+fn what_has_two_readings_is_refused(rt: HostRuntime) {
+    for (text, cause) in SMUGGLED.iter() {
+        let left = Some((true, text.len()));
+        let right = is_answered_however_cut(rt.alloc(), text, &[], Some((*cause, false)), left);
+        assert!(&rt; right == Ok(true), "{}", text.len());
+    }
+    for (text, cause, bare) in BAD_BODIES.iter() {
+        let right = is_answered_however_cut(rt.alloc(), text, &[], Some((*cause, *bare)), None);
+        assert!(&rt; right == Ok(true), "{}", text.len());
+    }
+}
+
+// Whether a text in pieces of `first` bytes and then of `size` bytes waits as it should, and what `early`
+// gives has the body that is due.
+fn is_waiting(
+    alloc: Global,
+    cut: (usize, usize),
+    text: &[u8],
+    due: bool,
+    body: Option<&[u8]>,
+) -> Result<bool, NoMemory> {
+    let mut reader = ReqReader::new(alloc, &least_limits());
+    let (first, rest) = text.split_at(cut.0.min(text.len()));
+    reader.feed(first)?;
+    for piece in rest.chunks(cut.1.max(1)) {
+        reader.early()?;
+        reader.feed(piece)?;
+    }
+    let is_early = match (reader.early()?, body) {
+        (Some(request), Some(body)) => {
+            request.body.as_slice() == body && reader.take_body().as_slice() == body
+        }
+        (None, None) => reader.take_body().is_empty(),
+        _ => false,
+    };
+    let waits = match reader.step()? {
+        ReqStep::More { continue_due } => continue_due == due,
+        ReqStep::Whole(_) => false,
+        ReqStep::Bad { .. } => false,
+    };
+    Ok(is_early && waits)
+}
+
+#[test]
+fn what_is_waited_for_and_served_early(rt: HostRuntime) {
+    for (text, due, body) in UNENDED.iter() {
+        let right = is_waiting(rt.alloc(), (0, 1), text, *due, *body);
+        assert!(&rt; right == Ok(true), "{}", text.len());
+        for first in 0..text.len() + 1 {
+            let right = is_waiting(rt.alloc(), (first, text.len()), text, *due, *body);
+            assert!(&rt; right == Ok(true), "{} {}", text.len(), first);
+        }
+    }
+}
+
+const STREAMED: &[u8] =
+    b"POST / HTTP/1.0\r\nContent-Length: 26\r\n\r\nabcdefghijklmnopqrstuvwxyzGET";
+
+// The body in the parts that `take_body` hands out of pieces of so many bytes, and what the request has
+// at its end. It takes what has come after each second piece.
+fn streamed(alloc: Global, size: usize) -> Result<Option<Bytes>, NoMemory> {
+    let mut reader = ReqReader::new(alloc, &least_limits());
+    let mut body = Bytes::new(alloc);
+    let mut takes = false;
+    for piece in STREAMED.chunks(size.max(1)) {
+        reader.feed(piece)?;
+        if takes && reader.early()?.is_some() {
+            body.extend_from_slice(reader.take_body().as_slice())?;
+        }
+        takes = !takes;
+    }
+    match reader.step()? {
+        ReqStep::Whole(request) => {
+            body.extend_from_slice(request.body.as_slice())?;
+            Ok(if reader.rest() == b"GET".as_slice() {
+                Some(body)
+            } else {
+                None
+            })
+        }
+        ReqStep::More { .. } => Ok(None),
+        ReqStep::Bad { .. } => Ok(None),
+    }
+}
+
+#[test]
+fn each_byte_of_a_body_is_handed_out_once(rt: HostRuntime) {
+    for size in 1..STREAMED.len() + 1 {
+        match streamed(rt.alloc(), size) {
+            Ok(Some(body)) => {
+                assert!(&rt;
+                    body.as_slice() == b"abcdefghijklmnopqrstuvwxyz".as_slice(),
+                    "{}",
+                    size
+                )
+            }
+            Ok(None) => panic!(&rt; "no request"),
+            Err(_) => panic!(&rt; "no memory"),
+        }
+    }
+}
+
 // The one request of a text.
-fn request_of(alloc: Global, text: &[u8]) -> Result<Option<bool>, NoMemory> {
+fn request_of(alloc: Global, text: &[u8]) -> Result<Option<Request>, NoMemory> {
     let mut reader = ReqReader::new(alloc, &least_limits());
     reader.feed(text)?;
     match reader.step()? {
-        ReqStep::Whole(request) => Ok(Some(persists(&request))),
+        ReqStep::Whole(request) => Ok(Some(request)),
         ReqStep::More { .. } => Ok(None),
         ReqStep::Bad { .. } => Ok(None),
     }
@@ -335,11 +223,65 @@ fn request_of(alloc: Global, text: &[u8]) -> Result<Option<bool>, NoMemory> {
 #[test]
 fn which_requests_end_the_connection(rt: HostRuntime) {
     for (text, lasting) in LASTING.iter() {
-        assert!(&rt;
-            request_of(rt.alloc(), text) == Ok(Some(*lasting)),
-            "{}",
-            text.len()
-        );
+        match request_of(rt.alloc(), text) {
+            Ok(Some(request)) => { assert!(&rt; persists(&request) == *lasting, "{}", text.len()) }
+            Ok(None) => panic!(&rt; "no request"),
+            Err(_) => panic!(&rt; "no memory"),
+        }
+    }
+}
+
+// Requests, the method after a local redirect, and the names of the field lines that are kept.
+const REDIRECTS: [(&[u8], &[u8], &[&[u8]]); 3] = [
+    (
+        b"HEAD / HTTP/1.1\r\nHost: a\r\nX: y\r\nhost2: a\r\n\r\n",
+        b"HEAD",
+        &[b"Host", b"X", b"host2"],
+    ),
+    (b"head / HTTP/1.1\r\nHost: a\r\n\r\n", b"GET", &[b"Host"]),
+    (
+        b"POST / HTTP/1.1\r\ncontent-LENGTH: 2\r\nContent-Type: a\r\nExpect: 100-continue\r\nCookie: c\r\nUpgrade: w\r\nConnection: close\r\nsec-websocket-Key: k\r\nSec-WebSocket-: k\r\nSec-WebSocket: kept\r\nContent: kept\r\nHost: a\r\n\r\nab",
+        b"GET",
+        &[b"Cookie", b"Sec-WebSocket", b"Content", b"Host"],
+    ),
+];
+
+fn is_redirected(
+    alloc: Global,
+    request: &Request,
+    method: &[u8],
+    names: &[&[u8]],
+) -> Result<bool, NoMemory> {
+    let target = Target {
+        path: Bytes::from_slice(alloc, b"/new")?,
+        query: None,
+        host: None,
+    };
+    let made = redirected(alloc, request, target)?;
+    let mut is_kept = made.fields.len() == names.len();
+    for (field, name) in made.fields.as_slice().iter().zip(names.iter()) {
+        is_kept = is_kept && field.name.as_slice() == *name;
+    }
+    Ok(
+        is_kept
+            && made.method.as_slice() == method
+            && made.target.path.as_slice() == b"/new".as_slice()
+            && made.version == request.version
+            && made.body.is_empty(),
+    )
+}
+
+#[test]
+fn what_a_local_redirect_keeps(rt: HostRuntime) {
+    for (text, method, names) in REDIRECTS.iter() {
+        match request_of(rt.alloc(), text) {
+            Ok(Some(request)) => {
+                let right = is_redirected(rt.alloc(), &request, method, names);
+                assert!(&rt; right == Ok(true), "{}", text.len())
+            }
+            Ok(None) => panic!(&rt; "no request"),
+            Err(_) => panic!(&rt; "no memory"),
+        }
     }
 }
 
@@ -370,11 +312,15 @@ fn count_given(alloc: Global, text: &[u8], size: usize) -> Result<usize, NoMemor
 
 #[test]
 fn a_long_pipeline_and_a_long_head(rt: HostRuntime) {
-    match repeated(rt.alloc(), b"GET /a HTTP/1.1\r\nHost: a\r\n\r\n", 20_000) {
+    match repeated(
+        rt.alloc(),
+        b"GET /a HTTP/1.0\r\nContent-Length: 2\r\n\r\nab",
+        5_000,
+    ) {
         Ok(text) => {
             for size in [1, 27, 65_536, text.len()] {
                 assert!(&rt;
-                    count_given(rt.alloc(), &text, size) == Ok(20_000),
+                    count_given(rt.alloc(), &text, size) == Ok(5_000),
                     "{}",
                     size
                 );
@@ -386,7 +332,8 @@ fn a_long_pipeline_and_a_long_head(rt: HostRuntime) {
     match repeated(rt.alloc(), b"HEAD / HTTP/1.1\r\n", 61) {
         Ok(text) => {
             let fault = Some((Cause::HeadTooLong, false));
-            let right = is_answered_however_cut(rt.alloc(), &text, &[], fault, (true, 1037));
+            let left = Some((true, 1037));
+            let right = is_answered_however_cut(rt.alloc(), &text, &[], fault, left);
             assert!(&rt; right == Ok(true));
         }
         Err(_) => panic!(&rt; "no memory"),

@@ -6,7 +6,7 @@ use Rattle.std.proofs.lemmas.List.{take_min, drop_min, take_at, drop_at, get_or_
 use Rattle.std.proofs.lemmas.List.Sums.{position_or_len_is}
 use Rattle.std.proofs.lemmas.Bool.{cond-true, cond-false, cases_Bool, and_parts, and_from, eqb-true, ltb-true, false≢true}
 use Rattle.host_base.proofs.SplitLaws.{chosen}
-use Rattle.script_map.specs.Authority.{is_colon, is_bracket_end, is_address_byte, is_ip_literal, is_name_byte, is_registered_name, is_host, is_port_part, host_len, host_of_authority}
+use Rattle.script_map.specs.Authority.{is_port_mark, is_bracket_end, is_address_byte, is_ip_literal, is_name_byte, is_registered_name, is_host, is_port_part, host_len, host_of_authority}
 use Rattle.script_map.specs.AuthorityRules.{IsAuthority, AuthoritiesHaveOneHost}
 use Rattle.script_map.specs.Bytes.{begins_with}
 use Rattle.script_map.specs.Escapes.{has_whole_escapes}
@@ -55,28 +55,32 @@ put_together host port named digits len =
     and_from _ _ (ap is_host front ∙ named) (ap is_port_part back ∙ digits) in
     cond-true _ _ _ good ∙ ap (λ (l : List ℕ). Some l) front
 
--- a registered name has no ":" and doesn't begin with "["
-no_byte : (stop : ℕ) → is_name_byte stop ≡ false → (b : ℕ) → is_name_byte b ≡ true → eqb b stop ≡ false
-no_byte stop fails b passes = differs (eqb b stop) refl
+-- a byte that fails a test is none that passes it
+pub other_byte : (test : ℕ → Bool) (stop : ℕ) → test stop ≡ false → (b : ℕ) → test b ≡ true → eqb b stop ≡ false
+other_byte test stop fails b passes = differs (eqb b stop) refl
   where
     differs : (t : Bool) → eqb b stop ≡ t → t ≡ false
-    differs true same = absurd (false≢true (sym fails ∙ ap is_name_byte (sym (eqb-true b stop same)) ∙ passes))
+    differs true same = absurd (false≢true (sym fails ∙ ap test (sym (eqb-true b stop same)) ∙ passes))
     differs false same = refl
 
-name_len : (name port : List ℕ) → list_all is_name_byte name ≡ true → is_port_part port ≡ true → position_or_len is_colon (name ++ port) ≡ length name
+-- a registered name has no ":" and doesn't begin with "["
+no_byte : (stop : ℕ) → is_name_byte stop ≡ false → (b : ℕ) → is_name_byte b ≡ true → eqb b stop ≡ false
+no_byte stop fails b passes = other_byte is_name_byte stop fails b passes
+
+name_len : (name port : List ℕ) → list_all is_name_byte name ≡ true → is_port_part port ≡ true → position_or_len is_port_mark (name ++ port) ≡ length name
 name_len [] [] named digits = refl
 name_len [] (b ∷ port) named digits =
-    let parts = and_parts (is_colon b) (list_all is_ascii_digit port) digits in
-    ap (λ (t : Bool). cond (not t) (1 + position_or_len is_colon port) 0) parts.0
+    let parts = and_parts (is_port_mark b) (list_all is_ascii_digit port) digits in
+    ap (λ (t : Bool). cond (not t) (1 + position_or_len is_port_mark port) 0) parts.0
 name_len (b ∷ name) port named digits =
     let parts = and_parts (is_name_byte b) (list_all is_name_byte name) named in
     let later = name_len name port parts.1 digits in
-    ap (λ (t : Bool). cond (not t) (1 + position_or_len is_colon (name ++ port)) 0) (no_byte 58 refl b parts.0) ∙ omega arith
+    ap (λ (t : Bool). cond (not t) (1 + position_or_len is_port_mark (name ++ port)) 0) (no_byte 58 refl b parts.0) ∙ omega arith
 
 name_begins : (name port : List ℕ) → list_all is_name_byte name ≡ true → is_port_part port ≡ true → begins_with 91 (name ++ port) ≡ false
 name_begins [] [] named digits = refl
 name_begins [] (b ∷ port) named digits =
-    let parts = and_parts (is_colon b) (list_all is_ascii_digit port) digits in
+    let parts = and_parts (is_port_mark b) (list_all is_ascii_digit port) digits in
     ap (λ (x : ℕ). eqb x 91) (eqb-true b 58 parts.0)
 name_begins (b ∷ name) port named digits = no_byte 91 refl b (and_parts (is_name_byte b) (list_all is_name_byte name) named).0
 
@@ -101,7 +105,7 @@ begins_again : (host port : List ℕ) → begins_with 91 host ≡ true → begin
 begins_again [] port is = absurd (cc)
 begins_again (b ∷ host) port is = is
 
-first_is : (host : List ℕ) → begins_with 91 host ≡ true → get_or host 0 0 ≡ 91
+pub first_is : (host : List ℕ) → begins_with 91 host ≡ true → get_or host 0 0 ≡ 91
 first_is [] is = absurd (cc)
 first_is (b ∷ host) is = eqb-true b 91 is
 
@@ -116,6 +120,15 @@ literal_end host port n len begins end inner =
     fails zero below = ap is_bracket_end (first_is host begins)
     fails (suc k) below = no_end (get_or host (suc k) 0) (inner (suc k) (omega arith) below)
 
+pub literal_middle : (host : List ℕ) (k : ℕ) → list_all is_address_byte (slice_range host 1 (length host - 1)) ≡ true → 1 ≤ k → k < length host - 1
+    → is_address_byte (get_or host k 0) ≡ true
+literal_middle host k all low high =
+    let place : 1 + (k - 1) ≡ k = omega arith in
+    ap is_address_byte (ap (λ (i : ℕ). get_or host i 0) (sym place) ∙ sym (get_or-drop 1 host (k - 1) 0)
+    ∙ sym (get_or-take (length host - 1 - 1) (drop 1 host) (k - 1) 0 (omega arith)))
+    ∙ inner_byte (slice_range host 1 (length host - 1)) (k - 1) all
+    (omega (arith, length-take (length host - 1 - 1) (drop 1 host), length-drop 1 host))
+
 len_of_literal : (host port : List ℕ) → is_ip_literal host ≡ true → host_len (host ++ port) ≡ length host
 len_of_literal host port literal =
     let three = and_parts _ (list_all is_address_byte (slice_range host 1 (length host - 1))) literal in
@@ -123,15 +136,8 @@ len_of_literal host port literal =
     let one = and_parts (ltb 2 (length host)) (begins_with 91 host) two.0 in
     let long = ltb-true 2 (length host) one.0 in
     let end = literal_end host port (length host - 1) (omega arith) one.1 (eqb-true _ 93 two.1)
-    (λ k low high. middle k low high (inner_byte (slice_range host 1 (length host - 1)) (k - 1) three.1
-    (omega (arith, length-take (length host - 1 - 1) (drop 1 host), length-drop 1 host)))) in
+    (λ k low high. literal_middle host k three.1 low high) in
     cond-true (begins_with 91 (host ++ port)) _ _ (begins_again host port one.1) ∙ omega (arith, end)
-  where
-    middle : (k : ℕ) → 1 ≤ k → k < length host - 1 → is_address_byte (get_or (slice_range host 1 (length host - 1)) (k - 1) 0) ≡ true → is_address_byte (get_or host k 0) ≡ true
-    middle k low high passes =
-        let place : 1 + (k - 1) ≡ k = omega arith in
-        ap is_address_byte (ap (λ (i : ℕ). get_or host i 0) (sym place) ∙ sym (get_or-drop 1 host (k - 1) 0)
-        ∙ sym (get_or-take (length host - 1 - 1) (drop 1 host) (k - 1) 0 (omega arith))) ∙ passes
 
 len_of_host : (host port : List ℕ) → is_host host ≡ true → is_port_part port ≡ true → host_len (host ++ port) ≡ length host
 len_of_host host port named digits =

@@ -1,9 +1,13 @@
 pub mod AuthorityLaws
 pub mod DecodingLaws
+pub mod HostLaws
 pub mod ListLaws
+pub mod MappingCausesLaws
 pub mod MappingLaws
 pub mod MappingRulesLaws
 pub mod PathLaws
 pub mod PathRulesLaws
 pub mod PlaceLaws
+pub mod TargetFormsLaws
 pub mod TargetLaws
+pub mod TargetRulesLaws

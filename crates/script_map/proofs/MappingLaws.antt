@@ -12,33 +12,33 @@ use Rattle.host_base.proofs.SplitLaws.{chosen}
 use Rattle.host_base.specs.declared.cause.Cause.TheVariants.{NoScript}
 use Rattle.host_base.specs.declared.site.Mapped.{Mapped}
 use Rattle.host_base.specs.declared.site.Script.{Script}
-use Rattle.script_map.specs.Mapping.{fits, is_longest, mapped_by, mapped_at, script_at, text_of, decoded_path, mapped_text, mapped_of, has_dot_segment, takes_memory}
+use Rattle.script_map.specs.Mapping.{fits, is_longest, mapped_by, mapped_at, script_at, text_or_none, decoded_text, mapped_text, path_takes_memory, has_dot_segment}
 use Rattle.script_map.specs.Escapes.{is_percent, has_whole_escapes, has_hidden_escape}
 use Rattle.script_map.proofs.ListLaws.{position_at, neither}
 
-pub text_of_some : (bytes decoded text : List ℕ) → text ≡ decoded → decoded ≡ bytes → IsUtf8 decoded → Some text ≡ text_of bytes
-text_of_some bytes decoded text one two utf8 =
+pub text_or_none-some : (bytes decoded text : List ℕ) → text ≡ decoded → decoded ≡ bytes → IsUtf8 decoded → Some text ≡ text_or_none bytes
+text_or_none-some bytes decoded text one two utf8 =
     ap (λ (l : List ℕ). Some l) (one ∙ two)
     ∙ sym (cond-true (is_utf8 bytes) (Some bytes) None (is_utf8-from_IsUtf8 bytes (subst IsUtf8 two utf8)))
 
-pub text_of_none : (bytes : List ℕ) → (IsUtf8 bytes → ⊥) → None ≡ text_of bytes
-text_of_none bytes never =
+pub text_or_none-none : (bytes : List ℕ) → (IsUtf8 bytes → ⊥) → None ≡ text_or_none bytes
+text_or_none-none bytes never =
     elim (cases_Bool (is_utf8 bytes)) [
       | inl text ↦ absurd (never (IsUtf8-from_is_utf8 bytes text))
       | inr other ↦ sym (cond-false (is_utf8 bytes) (Some bytes) None other)
     ]
 
-pub script_at_some : (scripts : List Script) (path : List ℕ) (index : ℕ) (script : Script) (mapped : Mapped)
-    → position (is_longest path scripts) scripts ≡ Some index → slice_get scripts index ≡ Some script → mapped ≡ mapped_by path index script
-    → Some mapped ≡ script_at scripts path
+pub script_at_some : (host : ℕ) (scripts : List Script) (path : List ℕ) (index : ℕ) (script : Script) (mapped : Mapped)
+    → position (is_longest path scripts) scripts ≡ Some index → slice_get scripts index ≡ Some script → mapped ≡ mapped_by host path index script
+    → Some mapped ≡ script_at host scripts path
 unfolding script_at
-script_at_some scripts path index script mapped at is made =
+script_at_some host scripts path index script mapped at is made =
     ap (λ (m : Mapped). Some m) made
-    ∙ sym (ap (option_and_then (mapped_at scripts path)) at ∙ ap (option_map (mapped_by path index)) is)
+    ∙ sym (ap (option_and_then (mapped_at host scripts path)) at ∙ ap (option_map (mapped_by host path index)) is)
 
-pub script_at_none : (scripts : List Script) (path : List ℕ) → position (is_longest path scripts) scripts ≡ None → None ≡ script_at scripts path
+pub script_at_none : (host : ℕ) (scripts : List Script) (path : List ℕ) → position (is_longest path scripts) scripts ≡ None → None ≡ script_at host scripts path
 unfolding script_at
-script_at_none scripts path none = sym (ap (option_and_then (mapped_at scripts path)) none)
+script_at_none host scripts path none = sym (ap (option_and_then (mapped_at host scripts path)) none)
 
 pub passes_at : {X : Type 0} (test : X → Bool) (xs : List X) (n : ℕ) (d : X) → position test xs ≡ Some n → (n < length xs) × (test (get_or xs n d) ≡ true)
 passes_at test xs n d is =
@@ -73,19 +73,19 @@ percent_stands bytes never =
         let parts = neither (is_percent x) (list_any is_percent xs) none in
         All-cons (λ b. b ≢ 37) x xs (eqb-false x 37 parts.0) (each xs parts.1)
 
-pub script_found : (scripts : List Script) (path : List ℕ) (index : ℕ) (script : Script)
-    → position (is_longest path scripts) scripts ≡ Some index → slice_get scripts index ≡ Some script → is_some (script_at scripts path) ≡ true
-script_found scripts path index script at is =
-    ap (λ (o : Option Mapped). is_some o) (sym (script_at_some scripts path index script (mapped_by path index script) at is refl))
+pub script_found : (host : ℕ) (scripts : List Script) (path : List ℕ) (index : ℕ) (script : Script)
+    → position (is_longest path scripts) scripts ≡ Some index → slice_get scripts index ≡ Some script → is_some (script_at host scripts path) ≡ true
+script_found host scripts path index script at is =
+    ap (λ (o : Option Mapped). is_some o) (sym (script_at_some host scripts path index script (mapped_by host path index script) at is refl))
 
-pub memory_decoded : (scripts : List Script) (path bytes : List ℕ) → bytes ≡ path → (has_whole_escapes bytes && list_any is_percent bytes) ≡ true
-    → takes_memory scripts path ≡ true
-memory_decoded scripts path bytes same told =
-    let parts = and_parts (has_whole_escapes bytes) (list_any is_percent bytes) told in
-    and_from _ _ (ap has_whole_escapes (sym same) ∙ parts.0) (or_left _ _ (ap (list_any is_percent) (sym same) ∙ parts.1))
+pub memory_decoded : (host : ℕ) (scripts : List Script) (path : List ℕ) → (has_whole_escapes path && list_any is_percent path) ≡ true
+    → path_takes_memory host scripts path ≡ true
+memory_decoded host scripts path told =
+    let parts = and_parts (has_whole_escapes path) (list_any is_percent path) told in
+    and_from _ _ parts.0 (or_left _ _ parts.1)
 
-whole_from : (path decoded : List ℕ) → decoded_path path ≡ Some decoded → has_whole_escapes path ≡ true
-unfolding decoded_path
+whole_from : (path decoded : List ℕ) → decoded_text path ≡ Some decoded → has_whole_escapes path ≡ true
+unfolding decoded_text
 whole_from path decoded is =
     elim (chosen (has_whole_escapes path) _ _ _ is) [
       | inl whole ↦ whole.0
@@ -96,11 +96,11 @@ found_ok : (o : Option Mapped) → is_some o ≡ true → is_ok (ok_or o NoScrip
 found_ok None none = absurd (cc)
 found_ok (Some m) some = refl
 
-pub memory_mapped : (scripts : List Script) (path decoded : List ℕ) → decoded_path path ≡ Some decoded → has_hidden_escape path ≡ false
-    → has_dot_segment decoded ≡ false → is_some (script_at scripts decoded) ≡ true → takes_memory scripts path ≡ true
-memory_mapped scripts path decoded is one two some =
-    let ok : is_ok (mapped_of scripts path) ≡ true =
-    ap (λ (o : Option (List ℕ)). is_ok (mapped_text scripts path o)) is
-    ∙ ap (λ (b : Bool). is_ok (cond b (Err NoScript) (ok_or (script_at scripts decoded) NoScript))) (λ i. one i || two i)
-    ∙ found_ok (script_at scripts decoded) some in
+pub memory_mapped : (host : ℕ) (scripts : List Script) (path decoded : List ℕ) → decoded_text path ≡ Some decoded → has_hidden_escape path ≡ false
+    → has_dot_segment decoded ≡ false → is_some (script_at host scripts decoded) ≡ true → path_takes_memory host scripts path ≡ true
+memory_mapped host scripts path decoded is one two some =
+    let ok : is_ok (mapped_text host scripts path (decoded_text path)) ≡ true =
+    ap (λ (o : Option (List ℕ)). is_ok (mapped_text host scripts path o)) is
+    ∙ ap (λ (b : Bool). is_ok (cond b (Err NoScript) (ok_or (script_at host scripts decoded) NoScript))) (λ i. one i || two i)
+    ∙ found_ok (script_at host scripts decoded) some in
     and_from _ _ (whole_from path decoded is) (or_right _ _ ok)

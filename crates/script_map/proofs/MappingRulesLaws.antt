@@ -16,9 +16,11 @@ use Rattle.host_base.specs.declared.cause.Cause.{Cause}
 use Rattle.host_base.specs.declared.cause.Cause.TheVariants.{NoScript}
 use Rattle.host_base.specs.declared.site.Mapped.{Mapped}
 use Rattle.host_base.specs.declared.site.Script.{Script}
+use Rattle.host_base.specs.declared.site.VHost.{VHost}
 use Rattle.script_map.specs.Escapes.{has_whole_escapes, has_hidden_escape}
-use Rattle.script_map.specs.Mapping.{is_at_edge, fits, is_no_longer, is_longest, mapped_by, mapped_at, script_at, decoded_path, mapped_text, has_dot_segment}
-use Rattle.script_map.specs.MappingRules.{FitsWholeSegments, IsScriptOf, MapsToLongest, FindsWhatFits}
+use Rattle.script_map.specs.Mapping.{is_at_edge, fits, is_no_longer, is_longest, mapped_by, mapped_at, script_at, decoded_text, mapped_text, mapped_at_host, has_dot_segment}
+use Rattle.script_map.specs.Hosts.{host_of_target, scripts_at}
+use Rattle.script_map.specs.MappingRules.{FitsWholeSegments, IsScriptOf, IsMappedTo, MapsToLongest}
 use Rattle.script_map.proofs.ListLaws.{position_at, position_past}
 use Rattle.script_map.proofs.MappingLaws.{passes_at}
 
@@ -35,6 +37,11 @@ fits_at : (path : List ℕ) (script : Script) (rest : List ℕ) → path ≡ scr
 fits_at path script rest is edge =
     and_from _ _ ((starts_is Decides-eqb path script.path _ refl).1 rest is)
     (ap is_at_edge (ap (drop (length script.path)) is ∙ drop_at script.path rest (length script.path) refl) ∙ edge)
+
+-- the script that is mapped fits
+pub script_fits : (scripts : List Script) (path : List ℕ) (mapped : Mapped) (is : IsScriptOf scripts path mapped) → fits path is.script ≡ true
+script_fits scripts path mapped is =
+    fits_at path is.script mapped.path_info (sym is.whole ∙ ap (λ (l : List ℕ). l ++ mapped.path_info) is.name) is.edge
 
 pub fits_whole_segments : FitsWholeSegments
 fits_whole_segments path script = (
@@ -65,31 +72,34 @@ map_some : {X Y : Type 0} (f : X → Y) (o : Option X) (y : Y) → option_map f 
 map_some f None y is = absurd (cc)
 map_some f (Some x) y is = (x, refl, cc)
 
-found_script : (scripts : List Script) (path : List ℕ) (mapped : Mapped) → script_at scripts path ≡ Some mapped → IsScriptOf scripts path mapped
+pub found_script : (host : ℕ) (scripts : List Script) (path : List ℕ) (mapped : Mapped) → script_at host scripts path ≡ Some mapped
+    → (mapped.host ≡ host) × IsScriptOf scripts path mapped
 unfolding script_at
-found_script scripts path mapped is =
-    let place = and_then_some (mapped_at scripts path) (position (is_longest path scripts) scripts) mapped is in
-    let script = map_some (mapped_by path place.0) (slice_get scripts place.0) mapped place.2 in
+found_script host scripts path mapped is =
+    let place = and_then_some (mapped_at host scripts path) (position (is_longest path scripts) scripts) mapped is in
+    let script = map_some (mapped_by host path place.0) (slice_get scripts place.0) mapped place.2 in
     let read = get_or_from_slice_get scripts place.0 script.0 script.0 script.1 in
     let longest : is_longest path scripts script.0 ≡ true =
     ap (is_longest path scripts) (sym read) ∙ (passes_at (is_longest path scripts) scripts place.0 script.0 place.1).1 in
     let parts = and_parts (fits path script.0) (list_all (is_no_longer path (length script.0.path)) scripts) longest in
-    let fitting = and_parts (starts_with eqb path script.0.path) (is_at_edge (drop (length script.0.path) path)) parts.0 in
-    subst (IsScriptOf scripts path) script.2 (record {
-      script = script.0;
-      listed = script.1;
-      name = refl;
-      whole = sym (begun path script.0 fitting.0);
-      edge = fitting.1;
-      longest = each_shorter path (length script.0.path) scripts parts.1;
-    })
+    let fitting = and_parts (starts_with eqb path script.0.path) (is_at_edge (drop (length script.0.path) path)) parts.0 in (
+      sym (ap (λ (m : Mapped). m.host) script.2),
+      subst (IsScriptOf scripts path) script.2 (record {
+        script = script.0;
+        listed = script.1;
+        name = refl;
+        whole = sym (begun path script.0 fitting.0);
+        edge = fitting.1;
+        longest = each_shorter path (length script.0.path) scripts parts.1;
+      }),
+    )
 
-ok_some : {X : Type 0} (o : Option X) (cause : Cause) (x : X) → ok_or o cause ≡ Ok x → o ≡ Some x
+pub ok_some : {X : Type 0} (o : Option X) (cause : Cause) (x : X) → ok_or o cause ≡ Ok x → o ≡ Some x
 ok_some None cause x is = absurd (cc)
 ok_some (Some y) cause x is = let same : y ≡ x = cc in ap (λ z. Some z) same
 
-decoded_is : (path decoded : List ℕ) → decoded_path path ≡ Some decoded → percent_decode path ≡ decoded
-unfolding decoded_path
+decoded_is : (path decoded : List ℕ) → decoded_text path ≡ Some decoded → percent_decode path ≡ decoded
+unfolding decoded_text
 decoded_is path decoded is =
     elim (chosen (has_whole_escapes path) _ _ _ is) [
       | inl whole ↦ elim (chosen _ (Some (percent_decode path)) None (Some decoded) whole.1) [
@@ -99,19 +109,29 @@ decoded_is path decoded is =
       | inr broken ↦ absurd (cc)
     ]
 
-found_text : (scripts : List Script) (path : List ℕ) (o : Option (List ℕ)) (mapped : Mapped) → decoded_path path ≡ o → mapped_text scripts path o ≡ Ok mapped
-    → IsScriptOf scripts (percent_decode path) mapped
-found_text scripts path None mapped told is = absurd (cc)
-found_text scripts path (Some decoded) mapped told is =
+found_text : (host : ℕ) (scripts : List Script) (path : List ℕ) (o : Option (List ℕ)) (mapped : Mapped) → decoded_text path ≡ o
+    → mapped_text host scripts path o ≡ Ok mapped → (mapped.host ≡ host) × IsScriptOf scripts (percent_decode path) mapped
+found_text host scripts path None mapped told is = absurd (cc)
+found_text host scripts path (Some decoded) mapped told is =
     elim (chosen (has_hidden_escape path || has_dot_segment decoded) _ _ _ is) [
       | inl refused ↦ absurd (cc)
       | inr taken ↦
-          subst (λ (l : List ℕ). IsScriptOf scripts l mapped) (sym (decoded_is path decoded told))
-          (found_script scripts decoded mapped (ok_some (script_at scripts decoded) NoScript mapped taken.1))
+          let found = found_script host scripts decoded mapped (ok_some (script_at host scripts decoded) NoScript mapped taken.1) in
+          (found.0, subst (λ (l : List ℕ). IsScriptOf scripts l mapped) (sym (decoded_is path decoded told)) found.1)
     ]
 
+mapped_at_place : (hosts : List VHost) (path : List ℕ) (name : Option (List ℕ)) (o : Option ℕ) (mapped : Mapped) → host_of_target hosts name ≡ o
+    → mapped_at_host hosts path o ≡ Ok mapped → IsMappedTo hosts name (percent_decode path) mapped
+mapped_at_place hosts path name None mapped told is = absurd (cc)
+mapped_at_place hosts path name (Some host) mapped told is =
+    let found = found_text host (scripts_at hosts host) path (decoded_text path) mapped refl is in
+    record {
+      host = told ∙ ap (λ (n : ℕ). Some n) (sym found.0);
+      script = subst (λ (n : ℕ). IsScriptOf (scripts_at hosts n) (percent_decode path) mapped) (sym found.0) found.1;
+    }
+
 pub maps_to_longest : MapsToLongest
-maps_to_longest scripts path mapped is = found_text scripts path (decoded_path path) mapped refl is
+maps_to_longest hosts target mapped is = mapped_at_place hosts target.path target.host (host_of_target hosts target.host) mapped refl is
 
 -- ---- where one fits, one is longest
 
@@ -203,25 +223,26 @@ All-at : (P : Script → Type 0) (front : List Script) (s : Script) (back : List
 All-at P [] s back all = All-head P s back all
 All-at P (x ∷ front) s back all = All-at P front s back (All-tail P x (front ++ s ∷ back) all)
 
-some_get : (path : List ℕ) (n k : ℕ) (scripts : List Script) → n < length scripts → option_map (mapped_by path k) (slice_get scripts n) ≡ None → ⊥
-some_get path n k [] below told = omega arith
-some_get path zero k (s ∷ scripts) below told = absurd (cc)
-some_get path (suc n) k (s ∷ scripts) below told = some_get path n k scripts (omega arith) told
+some_get : (host : ℕ) (path : List ℕ) (n k : ℕ) (scripts : List Script) → n < length scripts → option_map (mapped_by host path k) (slice_get scripts n) ≡ None → ⊥
+some_get host path n k [] below told = omega arith
+some_get host path zero k (s ∷ scripts) below told = absurd (cc)
+some_get host path (suc n) k (s ∷ scripts) below told = some_get host path n k scripts (omega arith) told
 
-no_place : (scripts : List Script) (path : List ℕ) → script_at scripts path ≡ None → (place : Option ℕ) → position (is_longest path scripts) scripts ≡ place → place ≡ None
+no_place : (host : ℕ) (scripts : List Script) (path : List ℕ) → script_at host scripts path ≡ None → (place : Option ℕ) → position (is_longest path scripts) scripts ≡ place → place ≡ None
 unfolding script_at
-no_place scripts path none None at = refl
-no_place scripts path none (Some n) at =
-    absurd (some_get path n n scripts (position_at (is_longest path scripts) scripts n at).0
-    (sym (ap (option_and_then (mapped_at scripts path)) at) ∙ none))
+no_place host scripts path none None at = refl
+no_place host scripts path none (Some n) at =
+    absurd (some_get host path n n scripts (position_at (is_longest path scripts) scripts n at).0
+    (sym (ap (option_and_then (mapped_at host scripts path)) at) ∙ none))
 
-pub finds_what_fits : FindsWhatFits
-finds_what_fits scripts path none =
+-- where none is found, none fits
+pub none_fits : (host : ℕ) (scripts : List Script) (path : List ℕ) → script_at host scripts path ≡ None → All (λ script. fits path script ≡ false) scripts
+none_fits host scripts path none =
     elim (longest_or_none path scripts) [
       | inl all ↦ all
       | inr found ↦
           let test = is_longest path scripts in
-          let place = no_place scripts path none (position test scripts) refl in
+          let place = no_place host scripts path none (position test scripts) refl in
           let past = position_past test scripts place in
           let all : All (λ s. test s ≡ false) scripts =
           All-from_get_or (λ s. test s ≡ false) scripts found.script (λ k below. fails_before_first test scripts k found.script (omega arith)) in

@@ -1,18 +1,21 @@
 -- What the Host field lines and a text say.
-use Rattle.std.proofs.Common.{◌≡◌, ◌≢◌, ℕ, Bool, List, [], ◌∷◌, length, map, Option, Some, None, refl, sym, ap, ◌∙◌, arith, inl, inr, cond}
+use Rattle.std.proofs.Common.{◌≡◌, ◌≢◌, ℕ, Bool, List, [], ◌∷◌, length, map, Option, Some, None, refl, sym, ap, ◌∙◌, arith, inl, inr, cond, Bor}
 use Rattle.std.specs.Prelude.{filter, count_by, MatchResult, Result, Ok, Err, is_ok}
+use Rattle.std.specs.Option.{option_copied}
+use Rattle.std.specs.Result.{result_ok}
 use Rattle.std.specs.List.{find}
 use Rattle.std.specs.Str.{is_utf8, IsUtf8}
 use Rattle.std.proofs.lemmas.Str.{is_utf8-from_IsUtf8, IsUtf8-from_is_utf8}
 use Rattle.std.proofs.lemmas.List.{nil_from_length}
 use Rattle.std.proofs.lemmas.List.Sums.{length-filter}
-use Rattle.std.proofs.lemmas.Bool.{cases_Bool}
+use Rattle.std.proofs.lemmas.Bool.{cases_Bool, cond-true, cond-false}
 use Rattle.host_base.specs.declared.fields.Field.{Field}
 use Rattle.host_base.specs.declared.request.Version.{Version}
 use Rattle.host_base.specs.declared.request.Version.TheVariants.{V10, V11}
 use Rattle.host_base.specs.FieldLists.{is_named, values_named, value_of}
 use Rattle.host_base.proofs.SplitLaws.{chosen}
 use Rattle.script_map.specs.Authority.{host_of_authority}
+use Rattle.script_map.specs.Mapping.{text_or_none}
 use Rattle.script_map.specs.Targets.{host_named}
 
 -- whether bytes could be read as a text
@@ -23,6 +26,16 @@ ok-is_utf8 bytes V W (Err e) told =
     elim (cases_Bool (is_utf8 bytes)) [
       | inl text ↦ absurd (told.0 (IsUtf8-from_is_utf8 bytes text))
       | inr other ↦ sym other
+    ]
+
+pub ok-text_or_none : {E : Type 0} (bytes : List ℕ) (W : E → Type 0) (r : Result (Bor (List ℕ)) E)
+    → MatchResult r (λ s. (s.now ≡ bytes) × IsUtf8 bytes) (λ e. (IsUtf8 bytes → ⊥) × W e) → option_copied (result_ok r) ≡ text_or_none bytes
+ok-text_or_none bytes W (Ok s) told =
+    ap (λ (l : List ℕ). Some l) told.0 ∙ sym (cond-true (is_utf8 bytes) (Some bytes) None (is_utf8-from_IsUtf8 bytes told.1))
+ok-text_or_none bytes W (Err e) told =
+    elim (cases_Bool (is_utf8 bytes)) [
+      | inl text ↦ absurd (told.0 (IsUtf8-from_is_utf8 bytes text))
+      | inr other ↦ sym (cond-false (is_utf8 bytes) (Some bytes) None other)
     ]
 
 pub filter-find : {X : Type 0} (test : X → Bool) (xs : List X) (x : X) → find test xs ≡ Some x → (rest : List X) × (filter test xs ≡ x ∷ rest)

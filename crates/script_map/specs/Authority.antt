@@ -5,15 +5,16 @@ use Rattle.std.specs.List.{list_any, list_all, position_or_len}
 use Rattle.script_map.specs.Bytes.{begins_with}
 use Rattle.script_map.specs.Escapes.{is_percent, has_whole_escapes}
 
-abbrev pub is_colon : ℕ → Bool
-is_colon byte = byte == 58
+-- what stands before a port
+abbrev pub is_port_mark : ℕ → Bool
+is_port_mark byte = byte == 58
 
 abbrev pub is_bracket_end : ℕ → Bool
 is_bracket_end byte = byte == 93
 
 -- a byte between the brackets of an IP literal (RFC 3986 3.2.2)
 abbrev pub is_address_byte : ℕ → Bool
-is_address_byte byte = is_ascii_hexdigit byte || is_colon byte || byte == 46
+is_address_byte byte = is_ascii_hexdigit byte || byte == 58 || byte == 46
 
 -- "[" 1*( HEXDIG / ":" / "." ) "]"
 abbrev pub is_ip_literal : List ℕ → Bool
@@ -38,12 +39,12 @@ is_host bytes = is_ip_literal bytes || is_registered_name bytes
 -- nothing, or ":" port, where port = *DIGIT (RFC 3986 3.2.3)
 abbrev pub is_port_part : List ℕ → Bool
 is_port_part [] = true
-is_port_part (byte ∷ digits) = is_colon byte && list_all is_ascii_digit digits
+is_port_part (byte ∷ digits) = is_port_mark byte && list_all is_ascii_digit digits
 
 -- how long the host is: up to the first "]" where it begins with "[", else up to the first ":"
 abbrev pub host_len : List ℕ → ℕ
 host_len value =
-    if begins_with 91 value then position_or_len is_bracket_end value + 1 else position_or_len is_colon value
+    if begins_with 91 value then position_or_len is_bracket_end value + 1 else position_or_len is_port_mark value
 
 -- The host of an authority, host [ ":" port ], or None where the value is none. The host may be empty.
 unfoldable pub host_of_authority : List ℕ → Option (List ℕ)

@@ -4,8 +4,12 @@ pub mod AuthorityRules
 pub mod Bytes
 pub mod DotSegments
 pub mod Escapes
+pub mod HostRules
+pub mod Hosts
 pub mod Mapping
 pub mod MappingRules
 pub mod PathRules
+pub mod Redirects
+pub mod TargetRules
 pub mod Targets
 pub mod Places

@@ -67,8 +67,8 @@ path_or_root [] = 47 ∷ []
 path_or_root (byte ∷ more) = byte ∷ more
 
 -- the path before the first "?"
-abbrev pub path_of : List ℕ → List ℕ
-path_of rest = path_or_root (before_first is_question rest)
+abbrev pub raw_path_of : List ℕ → List ℕ
+raw_path_of rest = path_or_root (before_first is_question rest)
 
 -- what follows the first "?"
 abbrev pub query_of : List ℕ → Option (List ℕ)
@@ -102,7 +102,7 @@ host_or_none (byte ∷ more) = Some (byte ∷ more)
 
 abbrev pub target_at : Place → Target
 target_at place = record {
-  path = without_dot_segments (path_of place.rest);
+  path = without_dot_segments (raw_path_of place.rest);
   query = query_of place.rest;
   host = host_or_none place.host;
 }

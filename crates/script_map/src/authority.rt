@@ -48,7 +48,9 @@ fn are_name_bytes(bytes: &[u8]) -> bool
     bytes.iter().all(|byte| is_name_byte(*byte))
 }
 
-fn is_host(bytes: &[u8]) -> bool
+/// Whether the bytes are a host (RFC 3986 3.2.2): an IP literal in brackets, or a registered name, which
+/// may be empty.
+pub fn is_host(bytes: &[u8]) -> bool
     ensures { result ≡ is_host bytes.now }
 {
     is_ip_literal(bytes) || (are_name_bytes(bytes) && has_whole_escapes(bytes))

@@ -6,7 +6,7 @@ ghost use Rattle.host_base.specs.declared.request.Target.{Target};
 ghost use Rattle.script_map.specs.Answers.{IsAnswer};
 ghost use Rattle.script_map.specs.DotSegments.{IsRooted};
 ghost use Rattle.script_map.specs.Places.{said};
-ghost use Rattle.script_map.specs.Targets.{host_or_none, is_question, path_of, query_of, target_at, target_of};
+ghost use Rattle.script_map.specs.Targets.{host_or_none, is_question, raw_path_of, query_of, target_at, target_of};
 
 use crate::bytes::len_before;
 use crate::segments::remove_dot_segments;
@@ -15,14 +15,14 @@ use host_base::{Bytes, Head, NoMemory, Refusal, Target};
 use std::alloc::Global;
 
 // The path before the first question mark, which is `/` where it is empty.
-fn path_of(rest: &[u8]) -> &[u8]
-    ensures { result.now ≡ path_of rest.now }
+pub fn raw_path_of(rest: &[u8]) -> &[u8]
+    ensures { result.now ≡ raw_path_of rest.now }
 {
     let path = &rest[..len_before(rest, b'?')];
     if path.is_empty() { b"/" } else { path }
 }
 
-fn copy_query(alloc: Global, rest: &[u8]) -> Result<Option<Bytes>, NoMemory>
+pub fn copy_query(alloc: Global, rest: &[u8]) -> Result<Option<Bytes>, NoMemory>
     ensures { IfOk result (λ query. query ≡ query_of rest.now) }
 {
     match query_of(rest) {
@@ -41,11 +41,11 @@ fn copy_host(alloc: Global, host: &[u8]) -> Result<Option<Bytes>, NoMemory>
 }
 
 fn copy_target(alloc: Global, spot: Spot<'_>) -> Result<Target, NoMemory>
-    requires { IsRooted (path_of spot.rest.now) }
+    requires { IsRooted (raw_path_of spot.rest.now) }
     ensures { IfOk result (λ target. target ≡ target_at (said spot.entry)) }
 {
     Ok(Target {
-        path: remove_dot_segments(alloc, path_of(spot.rest))?,
+        path: remove_dot_segments(alloc, raw_path_of(spot.rest))?,
         query: copy_query(alloc, spot.rest)?,
         host: copy_host(alloc, spot.host)?,
     })

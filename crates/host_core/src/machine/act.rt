@@ -4,7 +4,7 @@ ghost use Rattle.host_trace.specs.Told.{Adds, carries_nothing};
 
 use super::super::child::Decision;
 use super::Core;
-use first_path::{Asked, launch};
+use first_path::{Asked, first_scripts, launch};
 use host_base::{Launch, NoMemory, Text};
 use host_trace::{Act, Acted, Outside, Why};
 
@@ -147,7 +147,7 @@ impl Core<'_> {
         ensures { IfOk result (λ launch. launch ≡ launch_by self.now index host.now) }
     {
         match &self.peer {
-            Some(peer) if index < self.site.scripts.len() => {
+            Some(peer) if index < first_scripts(self.site).len() => {
                 Ok(Some(launch(self.alloc, self.site, peer, index, host)?))
             }
             _ => Ok(None),

@@ -16,14 +16,14 @@ use std::alloc::Global;
 fn fault_text(alloc: Global, cause: Cause, bare: bool) -> Result<Bytes, NoMemory>
     ensures { IfOk result (λ text. text ≡ whole_text_of (fault_reply_of cause) bare true) }
 {
-    whole_text(alloc, &fault_reply(alloc, cause)?, bare, true)
+    whole_text(alloc, &fault_reply(alloc, cause)?, bare, true, None)
 }
 
 fn output_text(alloc: Global, output: &[u8]) -> Result<Bytes, NoMemory>
     ensures { IfOk result (λ text. text ≡ text_of_output (derived output.now)) }
 {
     match derive(alloc, output)? {
-        Derived::Document(reply) => whole_text(alloc, &reply, false, true),
+        Derived::Document(reply) => whole_text(alloc, &reply, false, true, None),
         Derived::Refused(cause) => fault_text(alloc, cause, false),
     }
 }

@@ -54,7 +54,7 @@ impl Core<'_> {
         let child = &self.child;
         match ev {
             Event::Accepted { .. } | Event::Stop => !self.stopped,
-            Event::Tick => true,
+            Event::Tick { secs } => *secs < 253_402_300_800,
             Event::ClientBytes { c, bytes } => self.is_client_asked(*c) && is_piece(bytes),
             Event::ClientEof { c } => self.is_client_asked(*c),
             Event::ClientGone { c } | Event::NoRoom { c } => self.is_client_open(*c),

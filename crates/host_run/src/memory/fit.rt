@@ -271,6 +271,6 @@ pub fn fits(items: &[Item], event: &Event, limit: u32) -> bool
         Event::WsBinary { c } => is_asked_upgraded(items, *c),
         Event::WsClosed { c } => is_asked_upgraded(items, *c),
         Event::WsBad { c } => is_asked_upgraded(items, *c),
-        Event::Tick => true,
+        Event::Tick { secs } => *secs < 253_402_300_800,
     }
 }

@@ -169,7 +169,7 @@ impl MemoryOutside {
         } else if let Some(k) = running_child(items) {
             (Event::Exited { k }, Event::Exited { k })
         } else {
-            (Event::Tick, Event::Tick)
+            (Event::Tick { secs: 0 }, Event::Tick { secs: 0 })
         };
         Listed {
             told: event.0,

@@ -64,7 +64,7 @@ pub fn event_of(alloc: Global, heard: Heard) -> Result<Event, NoMemory> {
         },
         Heard::ChildEof => Event::ChildEof { k: 0 },
         Heard::Exited => Event::Exited { k: 0 },
-        Heard::Tick => Event::Tick,
+        Heard::Tick => Event::Tick { secs: 0 },
         Heard::Stop => Event::Stop,
     })
 }

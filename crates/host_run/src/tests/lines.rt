@@ -34,7 +34,7 @@ fn event_line(alloc: Global, event: &Event) -> Result<String, Fail> {
         Event::ChildBytes { k, bytes } => format!(in alloc; "ChildBytes {k}: {}", bytes.len())?,
         Event::ChildEof { k } => format!(in alloc; "ChildEof {k}")?,
         Event::Exited { k } => format!(in alloc; "Exited {k}")?,
-        Event::Tick => "Tick".to_string(alloc)?,
+        Event::Tick { .. } => "Tick".to_string(alloc)?,
         Event::Stop => "Stop".to_string(alloc)?,
         _ => "(another event)".to_string(alloc)?,
     })

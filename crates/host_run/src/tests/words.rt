@@ -111,7 +111,7 @@ pub fn event_of(alloc: Global, heard: Heard) -> Result<Event, NoMemory> {
         Heard::WsClosed(c) => Event::WsClosed { c },
         Heard::WsBad(c) => Event::WsBad { c },
         Heard::NoRoom(c) => Event::NoRoom { c },
-        Heard::Tick => Event::Tick,
+        Heard::Tick => Event::Tick { secs: 0 },
         Heard::Stop => Event::Stop,
     })
 }
@@ -138,7 +138,7 @@ pub fn heard_of(event: &Event) -> Heard {
         Event::WsClosed { c } => Heard::WsClosed(*c),
         Event::WsBad { c } => Heard::WsBad(*c),
         Event::NoRoom { c } => Heard::NoRoom(*c),
-        Event::Tick => Heard::Tick,
+        Event::Tick { .. } => Heard::Tick,
         Event::Stop => Heard::Stop,
     }
 }

@@ -5,7 +5,7 @@ use super::words::Heard::{Accepted, Stop, Tick};
 use super::words::{Heard, events_of, hears};
 use crate::memory::{MemoryOutside, MemorySink, MemoryStore, MemoryWorld, StoredFile};
 use host_base::{
-    Bytes, Limits, NoMemory, Scripts, Sink, SinkFault, Site, SiteStore, StoreFault, Text,
+    Bytes, Docs, Hosts, Limits, NoMemory, Sink, SinkFault, Site, SiteStore, StoreFault, Text,
 };
 use host_trace::{EnterFault, Mode, World};
 use std::alloc::Global;
@@ -14,12 +14,11 @@ use std::test::Fail;
 
 fn site(alloc: Global) -> Result<Site, NoMemory> {
     Ok(Site {
-        name: Text::copy_of(alloc, "localhost")?,
         listen: Text::copy_of(alloc, "127.0.0.1")?,
         port: 8080,
-        root: Text::copy_of(alloc, "/srv/www")?,
         limits: Limits::default(),
-        scripts: Scripts::new(alloc),
+        hosts: Hosts::new(alloc),
+        docs: Docs::new(alloc),
     })
 }
 

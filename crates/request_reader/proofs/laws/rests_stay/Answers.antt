@@ -1,4 +1,4 @@
-use Rattle.request_reader.proofs.ReadingLaws.{rests_stay}
+use Rattle.request_reader.proofs.RequestLaws.{rests_stay}
 use Rattle.request_reader.proofs.laws.rests_stay.Goals as goal
 
 pub returns : goal.returns

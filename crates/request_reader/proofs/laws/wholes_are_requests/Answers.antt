@@ -1,4 +1,4 @@
-use Rattle.request_reader.proofs.ReadingLaws.{wholes_are_requests}
+use Rattle.request_reader.proofs.RequestLaws.{wholes_are_requests}
 use Rattle.request_reader.proofs.laws.wholes_are_requests.Goals as goal
 
 pub returns : goal.returns

@@ -1,4 +1,5 @@
-use Rattle.script_map.proofs.MappingRulesLaws.{fits_whole_segments, maps_to_longest, finds_what_fits}
+use Rattle.script_map.proofs.MappingRulesLaws.{fits_whole_segments, maps_to_longest}
+use Rattle.script_map.proofs.MappingCausesLaws.{finds_what_fits}
 use Rattle.script_map.proofs.DecodingLaws.{decodes_segments}
 use Rattle.script_map.proofs.laws.paths_are_mapped.Goals as goal
 

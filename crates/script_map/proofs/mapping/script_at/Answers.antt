@@ -18,7 +18,7 @@ returns-in_ok-copy_mapped-in-Some-clause-exact c =
     let scripts = c.args.scripts.now in
     let script = c.index-scripts-index.result in
     let at = longest_of path c.as_bytes.result.now scripts c.as_bytes.ensures.value _ (sym c.in-Some.ensures) in
-    script_at_some scripts path c.in-Some.index script c.in_ok-copy_mapped-in-Some.field-0 at
+    script_at_some c.args.host scripts path c.in-Some.index script c.in_ok-copy_mapped-in-Some.field-0 at
     (slice_get_read scripts (length scripts) c.in-Some.index script refl (passes_at (is_longest path scripts) scripts c.in-Some.index script at).0 c.index-scripts-index.is)
     c.in_ok-copy_mapped-in-Some.ensures
 
@@ -26,7 +26,7 @@ pub returns-in-None-clause-exact : goal.returns-in-None-clause-exact
 returns-in-None-clause-exact c =
     let path = c.args.path.now in
     let scripts = c.args.scripts.now in
-    script_at_none scripts path (longest_of path c.as_bytes.result.now scripts c.as_bytes.ensures.value _ (sym c.in-None.ensures))
+    script_at_none c.args.host scripts path (longest_of path c.as_bytes.result.now scripts c.as_bytes.ensures.value _ (sym c.in-None.ensures))
 
 pub returns-in_err-copy_mapped-in-Some-clause-memory : goal.returns-in_err-copy_mapped-in-Some-clause-memory
 returns-in_err-copy_mapped-in-Some-clause-memory c =
@@ -35,5 +35,5 @@ returns-in_err-copy_mapped-in-Some-clause-memory c =
     let script = c.index-scripts-index.result in
     let at = longest_of path c.as_bytes.result.now scripts c.as_bytes.ensures.value _ (sym c.in-Some.ensures) in
     on_err_always c.from_residual.result _
-    (script_found scripts path c.in-Some.index script at
+    (script_found c.args.host scripts path c.in-Some.index script at
     (slice_get_read scripts (length scripts) c.in-Some.index script refl (passes_at (is_longest path scripts) scripts c.in-Some.index script at).0 c.index-scripts-index.is))

@@ -1,17 +1,20 @@
-use Rattle.std.proofs.Common.{[], sym, ◌∙◌, append-nil}
-use Rattle.request_reader.proofs.ReaderLaws.{kept_at_feed}
+use Rattle.std.proofs.Common.{ℕ, List, drop, subst, sym, ap, ◌∙◌, ◌++◌}
+use Rattle.std.proofs.lemmas.List.{drop-append-le, take_rest}
+use Rattle.request_reader.specs.Reader.{Reader, IsHeard}
+use Rattle.request_reader.proofs.HeardLaws.{heard_fed}
 use Rattle.request_reader.proofs.reader.ReqReader.feed.Goals as goal
 
-pub invariant_of-self : goal.invariant_of-self
-invariant_of-self c =
-    let old = c.self.inside in
-    let compacted = c.compact-self-inside in
-    kept_at_feed old.limits old.buffer.items compacted.new.buffer.items _ [] old.begin compacted.result old.search old.fault c.self.invariant
-    compacted.ensures.within compacted.ensures.same (c.in_err-extend_from_slice.ensures.items ∙ sym (append-nil compacted.new.buffer.items))
-
-pub invariant_of-self-2 : goal.invariant_of-self-2
-invariant_of-self-2 c =
-    let old = c.self.inside in
-    let compacted = c.compact-self-inside in
-    kept_at_feed old.limits old.buffer.items compacted.new.buffer.items _ c.args.piece.now old.begin compacted.result old.search old.fault c.self.invariant
-    compacted.ensures.within compacted.ensures.same c.in_ok-extend_from_slice.ensures.items
+pub returns-clause-ok : goal.returns-clause-ok
+returns-clause-ok c bytes taken h =
+    let s = c.self.inside in
+    let count = c.wanted_by-count.result in
+    let kept = c.compact-self-inside.ensures in
+    let tail = drop count c.args.piece.now in
+    heard_fed s.limits s.fault s.opened c.read_wanted.new.opened (drop s.begin s.buffer.items)
+    (drop c.compact-self-inside.result c.extend_from_slice.new.self.items) bytes c.args.piece.now taken count c.wanted_by-count.ensures
+    c.in_default.ensures.ok
+    (ap (drop c.compact-self-inside.result) (c.in_ok-extend_from_slice.ensures.items
+    ∙ ap (λ (l : List ℕ). c.compact-self-inside.new.buffer.items ++ l) (take_rest c.args.piece.now count))
+    ∙ drop-append-le c.compact-self-inside.result c.compact-self-inside.new.buffer.items tail kept.within
+    ∙ ap (λ (l : List ℕ). l ++ tail) kept.same)
+    (subst (λ (r : Reader). IsHeard r bytes taken) (sym c.self.view_is) h)

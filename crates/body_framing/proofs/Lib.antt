@@ -1,0 +1,6 @@
+pub mod Runs
+pub mod WordLaws
+pub mod Rests
+pub mod Steps
+pub mod BodyLaws
+pub mod Refusals

@@ -1,0 +1,4 @@
+pub mod Places
+pub mod Chunked
+pub mod ChunkLaws
+pub mod Framing

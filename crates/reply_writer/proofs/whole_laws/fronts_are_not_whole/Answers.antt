@@ -1,0 +1,5 @@
+use Rattle.reply_writer.proofs.WholeEndLaws.{fronts_are_not_whole}
+use Rattle.reply_writer.proofs.whole_laws.fronts_are_not_whole.Goals as goal
+
+pub returns : goal.returns
+returns c = fronts_are_not_whole
