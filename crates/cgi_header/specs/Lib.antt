@@ -1,0 +1,3 @@
+pub mod ScriptHeader
+pub mod HeaderLines
+pub mod HeaderRules

@@ -1,0 +1,2 @@
+pub mod DerivedLaws
+pub mod PlainLaws

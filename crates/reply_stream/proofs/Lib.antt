@@ -1,0 +1,4 @@
+pub mod HearingLaws
+pub mod PartLaws
+pub mod OpenLaws
+pub mod StageLaws

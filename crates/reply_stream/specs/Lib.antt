@@ -1,0 +1,6 @@
+pub mod Hearing
+pub mod HearingRules
+pub mod Writing
+pub mod Stages
+pub mod Openings
+pub mod StageRules
