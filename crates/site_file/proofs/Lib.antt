@@ -1,0 +1,13 @@
+mod ArrayLaws
+mod BackLaws
+mod DepthLaws
+mod DoubleLaws
+mod EachLaws
+mod EntryLaws
+mod HostBackLaws
+mod InRangeLaws
+mod NumberLaws
+mod OneLaws
+mod ServedLaws
+mod SiteBackLaws
+mod WriteLaws

@@ -1,0 +1,11 @@
+use Rattle.std.proofs.Common.{◌≡◌, drop, codes}
+use Rattle.site_file.specs.declared.levels.Level.TheVariants.{Documents}
+use Rattle.site_file.specs.Keys.{entry}
+use Rattle.site_file.specs.Tables.{members_of_all}
+use Rattle.site_file.specs.Unknown.{unknown_at, unknown_in_documents, first_from}
+use Rattle.site_file.proofs.unknown.unknown_in_documents.Given as goal
+
+abbrev pub invariant-loop-index : goal.invariant-loop-index
+invariant-loop-index l =
+    first_from (λ index table. unknown_at Documents (entry l.place (codes "documents") index) table) l.index (drop l.index (members_of_all l.tables))
+    ≡ unknown_in_documents l.place (members_of_all l.tables)

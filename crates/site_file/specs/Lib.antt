@@ -1,0 +1,13 @@
+pub mod Doubles
+pub mod Keys
+pub mod Levels
+pub mod Numbering
+pub mod OneScript
+pub mod Ranges
+pub mod SiteFile
+pub mod SiteLaws
+pub mod SiteText
+pub mod Steps
+pub mod Tables
+pub mod TextRanges
+pub mod Unknown
