@@ -1,0 +1,9 @@
+pub mod DifferLaws
+pub mod FolderLaws
+pub mod GatewayLaws
+pub mod HeaderLaws
+pub mod NameLaws
+pub mod PlaceLaws
+pub mod PushLaws
+pub mod TextLaws
+pub mod ValueLaws

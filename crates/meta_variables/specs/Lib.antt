@@ -1,0 +1,9 @@
+pub mod Environment
+pub mod EnvironmentRules
+pub mod EnvironmentValues
+pub mod Gateway
+pub mod GatewayRules
+pub mod HeaderVariables
+pub mod Launch
+pub mod Parts
+pub mod Variables

@@ -1,0 +1,2 @@
+pub mod SearchRules
+pub mod SearchWords
