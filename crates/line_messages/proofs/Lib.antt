@@ -1,0 +1,4 @@
+pub mod PartLemmas
+pub mod JoinLemmas
+pub mod LawLemmas
+pub mod ReadingLemmas

@@ -1,0 +1,4 @@
+pub mod LineLaws
+pub mod Lines
+pub mod Reading
+pub mod State

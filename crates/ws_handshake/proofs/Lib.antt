@@ -1,0 +1,4 @@
+pub mod KeyLemmas
+pub mod OrderLaws
+pub mod SampleLaws
+pub mod ValueLemmas

@@ -1,0 +1,360 @@
+// Requests, and what a server owes them by RFC 6455 4.2.1 and 4.2.2.
+use crate::{Accept, accept_text, check};
+use host_base::{
+    Bytes, Cause, Field, Fields, Framing, NoMemory, Request, Target, Text, Texts, Version,
+};
+use std::alloc::Global;
+use std::test::Fail;
+
+// The fields of the request that the cases change.
+const FIELDS: [(&str, &str); 6] = [
+    ("Host", "a"),
+    ("Upgrade", "websocket"),
+    ("Connection", "keep-alive, Upgrade"),
+    ("Sec-WebSocket-Key", "dGhlIHNhbXBsZSBub25jZQ=="),
+    ("Sec-WebSocket-Version", "13"),
+    ("Origin", "http://example.com"),
+];
+
+// The accept value of the key above (RFC 6455 1.3).
+const SAMPLE: &str = "s3pPLMBiTxaQ9kYGzzhZRbK+xOo=";
+
+// A change of the request: the values that a name has in place of its own.
+type Change<'a> = (&'a str, &'a [&'a str]);
+
+fn put(alloc: Global, fields: &mut Fields, name: &str, value: &str) -> Result<(), NoMemory> {
+    let name = Bytes::from_slice(alloc, name.as_bytes())?;
+    let value = Bytes::from_slice(alloc, value.as_bytes())?;
+    fields.push(Field { name, value })
+}
+
+fn put_all(
+    alloc: Global,
+    fields: &mut Fields,
+    name: &str,
+    values: &[&str],
+) -> Result<(), NoMemory> {
+    for value in values {
+        put(alloc, fields, name, value)?;
+    }
+    Ok(())
+}
+
+fn fields_with(alloc: Global, changes: &[Change]) -> Result<Fields, NoMemory> {
+    let mut fields = Fields::new(alloc);
+    for (name, value) in FIELDS.iter() {
+        match changes.iter().find(|change| change.0 == *name) {
+            Some(change) => put_all(alloc, &mut fields, name, change.1)?,
+            None => put(alloc, &mut fields, name, value)?,
+        }
+    }
+    Ok(fields)
+}
+
+fn request_of(
+    alloc: Global,
+    start: (&str, Version, Framing),
+    changes: &[Change],
+) -> Result<Request, NoMemory> {
+    Ok(Request {
+        method: Bytes::from_slice(alloc, start.0.as_bytes())?,
+        target: Target {
+            path: Bytes::from_slice(alloc, b"/ws")?,
+            query: None,
+            host: None,
+        },
+        version: start.1,
+        fields: fields_with(alloc, changes)?,
+        framing: start.2,
+        body: Bytes::new(alloc),
+    })
+}
+
+fn texts_of(alloc: Global, words: &[&str]) -> Result<Texts, NoMemory> {
+    let mut texts = Texts::new(alloc);
+    for word in words {
+        texts.push(Text::copy_of(alloc, word)?)?;
+    }
+    Ok(texts)
+}
+
+// Whether the check answers so, with these origins taken or, where there are none, any.
+fn is_answered(request: &Request, origins: Option<&Texts>, answer: Result<&str, Cause>) -> bool {
+    match (check(request, origins), answer) {
+        (Ok(accept), Ok(value)) => accept.value.as_slice() == value.as_bytes(),
+        (Err(cause), Err(due)) => cause == due,
+        _ => false,
+    }
+}
+
+// What the fields say, and the answer where any origin is taken.
+const BY_FIELDS: [(&[Change], Result<&str, Cause>); 38] = [
+    (&[], Ok(SAMPLE)),
+    // The words of lists, in any case and at any place.
+    (&[("Upgrade", &["WebSocket"])], Ok(SAMPLE)),
+    (&[("Upgrade", &["h2c, WEBSOCKET"])], Ok(SAMPLE)),
+    (&[("Upgrade", &["h2c", "websocket"])], Ok(SAMPLE)),
+    (&[("Upgrade", &["websockets"])], Err(Cause::UpgradeNeeded)),
+    (&[("Upgrade", &["websocket/13"])], Err(Cause::UpgradeNeeded)),
+    (&[("Upgrade", &[])], Err(Cause::UpgradeNeeded)),
+    (&[("Connection", &["upgrade"])], Ok(SAMPLE)),
+    (&[("Connection", &["close", "UPGRADE"])], Ok(SAMPLE)),
+    (
+        &[("Connection", &["keep-alive"])],
+        Err(Cause::UpgradeNeeded),
+    ),
+    (
+        &[("Connection", &["keep-alive Upgrade"])],
+        Err(Cause::UpgradeNeeded),
+    ),
+    (&[("Connection", &[])], Err(Cause::UpgradeNeeded)),
+    // The version, as it stands.
+    (
+        &[("Sec-WebSocket-Version", &["8"])],
+        Err(Cause::UpgradeNeeded),
+    ),
+    (
+        &[("Sec-WebSocket-Version", &[" 13"])],
+        Err(Cause::UpgradeNeeded),
+    ),
+    (
+        &[("Sec-WebSocket-Version", &["13, 8"])],
+        Err(Cause::UpgradeNeeded),
+    ),
+    (
+        &[("Sec-WebSocket-Version", &["013"])],
+        Err(Cause::UpgradeNeeded),
+    ),
+    (
+        &[("Sec-WebSocket-Version", &["13", "13"])],
+        Err(Cause::UpgradeNeeded),
+    ),
+    (
+        &[("Sec-WebSocket-Version", &["13", "8"])],
+        Err(Cause::UpgradeNeeded),
+    ),
+    (&[("Sec-WebSocket-Version", &[])], Err(Cause::UpgradeNeeded)),
+    // Keys of 16 zero bytes, of 16 bytes 255, with blanks around.
+    (
+        &[("Sec-WebSocket-Key", &["AAAAAAAAAAAAAAAAAAAAAA=="])],
+        Ok("ICX+Yqv66kxgM0FcWaLWlFLwTAI="),
+    ),
+    (
+        &[("Sec-WebSocket-Key", &["/////////////////////w=="])],
+        Ok("XXpj4jYzLM2yUE0C7TIgMwTQh2g="),
+    ),
+    (
+        &[("Sec-WebSocket-Key", &[" \tdGhlIHNhbXBsZSBub25jZQ== "])],
+        Ok(SAMPLE),
+    ),
+    // Of 15 and 17 bytes, with a blank within, with broken padding, in another alphabet.
+    (
+        &[("Sec-WebSocket-Key", &["AAAAAAAAAAAAAAAAAAAA"])],
+        Err(Cause::BadHandshake),
+    ),
+    (
+        &[("Sec-WebSocket-Key", &["AAAAAAAAAAAAAAAAAAAAAAA="])],
+        Err(Cause::BadHandshake),
+    ),
+    (
+        &[("Sec-WebSocket-Key", &["dGhlIHNhbXBsZS Bub25jZQ=="])],
+        Err(Cause::BadHandshake),
+    ),
+    (
+        &[("Sec-WebSocket-Key", &["dGhlIHNhbXBsZSBub25jZQ"])],
+        Err(Cause::BadHandshake),
+    ),
+    (
+        &[("Sec-WebSocket-Key", &["dGhlIHNhbXBsZSBub25jZQ="])],
+        Err(Cause::BadHandshake),
+    ),
+    (
+        &[("Sec-WebSocket-Key", &["dGhlIHNhbXBsZSBub25jZQ==="])],
+        Err(Cause::BadHandshake),
+    ),
+    (
+        &[("Sec-WebSocket-Key", &["dGhlIHNhbXBsZSBub25jZR=="])],
+        Err(Cause::BadHandshake),
+    ),
+    (
+        &[("Sec-WebSocket-Key", &["_____________________w=="])],
+        Err(Cause::BadHandshake),
+    ),
+    (&[("Sec-WebSocket-Key", &[""])], Err(Cause::BadHandshake)),
+    (&[("Sec-WebSocket-Key", &[])], Err(Cause::BadHandshake)),
+    (
+        &[(
+            "Sec-WebSocket-Key",
+            &["dGhlIHNhbXBsZSBub25jZQ==", "dGhlIHNhbXBsZSBub25jZQ=="],
+        )],
+        Err(Cause::BadHandshake),
+    ),
+    // Any origin, and none.
+    (&[("Origin", &[])], Ok(SAMPLE)),
+    (&[("Origin", &["null", "http://a"])], Ok(SAMPLE)),
+    // Two checks at once: the first gives the cause.
+    (
+        &[("Upgrade", &[]), ("Sec-WebSocket-Key", &["x"])],
+        Err(Cause::UpgradeNeeded),
+    ),
+    (
+        &[
+            ("Sec-WebSocket-Version", &["8"]),
+            ("Sec-WebSocket-Key", &[]),
+        ],
+        Err(Cause::UpgradeNeeded),
+    ),
+    (
+        &[
+            ("Connection", &["close"]),
+            ("Sec-WebSocket-Version", &["12"]),
+        ],
+        Err(Cause::UpgradeNeeded),
+    ),
+];
+
+#[test]
+fn fields_are_judged(rt: HostRuntime) -> Result<(), Fail> {
+    let start = ("GET", Version::V11, Framing::Empty);
+    for (changes, answer) in BY_FIELDS.iter() {
+        let request = request_of(rt.alloc(), start, changes)?;
+        assert!(rt; is_answered(&request, None, *answer), "{changes:?}");
+    }
+    Ok(())
+}
+
+// Request lines and framings, and the answer.
+const BY_START: [(&str, Version, Framing, Result<&str, Cause>); 8] = [
+    ("GET", Version::V11, Framing::Length(0), Ok(SAMPLE)),
+    (
+        "GET",
+        Version::V10,
+        Framing::Empty,
+        Err(Cause::UpgradeNeeded),
+    ),
+    (
+        "POST",
+        Version::V11,
+        Framing::Empty,
+        Err(Cause::UpgradeNeeded),
+    ),
+    (
+        "HEAD",
+        Version::V11,
+        Framing::Empty,
+        Err(Cause::UpgradeNeeded),
+    ),
+    (
+        "get",
+        Version::V11,
+        Framing::Empty,
+        Err(Cause::UpgradeNeeded),
+    ),
+    (
+        "GET",
+        Version::V11,
+        Framing::Length(1),
+        Err(Cause::BadHandshake),
+    ),
+    (
+        "GET",
+        Version::V11,
+        Framing::Chunked,
+        Err(Cause::BadHandshake),
+    ),
+    (
+        "POST",
+        Version::V11,
+        Framing::Length(1),
+        Err(Cause::UpgradeNeeded),
+    ),
+];
+
+#[test]
+fn request_lines_and_bodies_are_judged(rt: HostRuntime) -> Result<(), Fail> {
+    for (method, version, framing, answer) in BY_START.iter() {
+        let request = request_of(rt.alloc(), (method, *version, *framing), &[])?;
+        assert!(rt;
+            is_answered(&request, None, *answer),
+            "{method} {framing:?}"
+        );
+    }
+    Ok(())
+}
+
+// What the fields say, the origins that are taken, and the answer.
+const BY_ORIGIN: [(&[Change], &[&str], Result<&str, Cause>); 12] = [
+    (&[], &["http://example.com"], Ok(SAMPLE)),
+    (&[], &["http://a", "http://example.com"], Ok(SAMPLE)),
+    (&[("Origin", &["null"])], &["null"], Ok(SAMPLE)),
+    (&[], &[], Err(Cause::OriginRefused)),
+    (
+        &[("Origin", &[])],
+        &["http://example.com"],
+        Err(Cause::OriginRefused),
+    ),
+    (
+        &[("Origin", &["http://Example.com"])],
+        &["http://example.com"],
+        Err(Cause::OriginRefused),
+    ),
+    (
+        &[("Origin", &["http://example.com/"])],
+        &["http://example.com"],
+        Err(Cause::OriginRefused),
+    ),
+    (
+        &[("Origin", &["http://example.co"])],
+        &["http://example.com"],
+        Err(Cause::OriginRefused),
+    ),
+    (
+        &[("Origin", &["http://example.com", "http://example.com"])],
+        &["http://example.com"],
+        Err(Cause::OriginRefused),
+    ),
+    // Two checks at once: the first gives the cause.
+    (
+        &[("Origin", &["http://a"]), ("Sec-WebSocket-Key", &["x"])],
+        &["http://example.com"],
+        Err(Cause::BadHandshake),
+    ),
+    (
+        &[("Origin", &[]), ("Sec-WebSocket-Version", &["8"])],
+        &["http://example.com"],
+        Err(Cause::UpgradeNeeded),
+    ),
+    (
+        &[("Origin", &[]), ("Upgrade", &["h2c"])],
+        &["http://example.com"],
+        Err(Cause::UpgradeNeeded),
+    ),
+];
+
+#[test]
+fn origins_are_judged(rt: HostRuntime) -> Result<(), Fail> {
+    let start = ("GET", Version::V11, Framing::Empty);
+    for (changes, origins, answer) in BY_ORIGIN.iter() {
+        let request = request_of(rt.alloc(), start, changes)?;
+        let origins = texts_of(rt.alloc(), origins)?;
+        assert!(rt;
+            is_answered(&request, Some(&origins), *answer),
+            "{changes:?}"
+        );
+    }
+    Ok(())
+}
+
+// The reply of RFC 6455 1.3, without its subprotocol.
+#[test]
+fn accept_texts_are_spelled(rt: HostRuntime) -> Result<(), Fail> {
+    let mut accept = Accept { value: [0; 28] };
+    accept
+        .value
+        .copy_from_slice(b"s3pPLMBiTxaQ9kYGzzhZRbK+xOo=");
+    let text = accept_text(rt.alloc(), &accept)?;
+    let due =
+        b"HTTP/1.1 101 Switching Protocols\r\nUpgrade: websocket\r\nConnection: Upgrade\r\nSec-WebSocket-Accept: s3pPLMBiTxaQ9kYGzzhZRbK+xOo=\r\n\r\n";
+    assert!(rt; text.as_slice() == due.as_slice());
+    Ok(())
+}
