@@ -1,0 +1,7 @@
+pub mod ViewLaws
+pub mod NameLaws
+pub mod KeptLaws
+pub mod SameLaws
+pub mod BetweenLaws
+pub mod BlockLaws
+pub mod FitLaws

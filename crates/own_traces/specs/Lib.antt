@@ -1,0 +1,5 @@
+pub mod Whose
+pub mod Between
+pub mod Moved
+pub mod OwnFits
+pub mod OwnLaws

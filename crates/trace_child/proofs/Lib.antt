@@ -1,0 +1,5 @@
+pub mod WordLaws
+pub mod DecidedLaws
+pub mod ChildRules
+pub mod Computed
+pub mod WrongChildren

@@ -1,0 +1,13 @@
+pub mod Words
+pub mod Run
+pub mod Decided
+pub mod ChildDemands
+pub mod Bodies
+pub mod Feeds
+pub mod HandlesDecided
+pub mod Lingers
+pub mod Stops
+pub mod ChildActs
+pub mod ChildForm
+pub mod ChildGood
+pub mod ChildLaws
