@@ -1,0 +1,10 @@
+pub mod ExchangeLaws
+pub mod FirstByteLaws
+pub mod LiftLaws
+pub mod AnswerLaws
+pub mod CompletedLaws
+pub mod VerdictLaws
+pub mod SamenessLaws
+pub mod OwnerLaws
+pub mod WaitLaws
+pub mod EndLaws

@@ -1,0 +1,14 @@
+pub mod OnLiterals
+pub mod OnDates
+pub mod OnTalks
+pub mod Site
+pub mod RowsOfReplies
+pub mod RowsOfStreams
+pub mod LongRow
+pub mod RowsOfEnds
+pub mod RowsOfBodies
+pub mod RowsOfMany
+pub mod RowsOfTalks
+pub mod WrongRows
+pub mod WrongTalks
+pub mod EachAct

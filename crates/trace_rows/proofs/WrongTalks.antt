@@ -1,0 +1,78 @@
+-- WebSockets that break a rule, and which, by computation.
+use Rattle.std.proofs.Common.{◌≡◌, List, [], ◌∷◌, refl}
+use Rattle.std.specs.Prelude.{codes}
+use Rattle.host_trace.specs.declared.items.Event.TheVariants.{Accepted, ClientBytes, Started, ChildBytes, ChildEof}
+use Rattle.host_trace.specs.declared.items.Act.TheVariants.{WantClient, Write, Shut, Start, EndInput, WantChild, Upgrade, Says, CloseWs}
+use Rattle.host_trace.specs.declared.items.Item.{Item}
+use Rattle.host_trace.specs.declared.items.Item.TheVariants.{In, Out}
+use Rattle.host_trace.specs.declared.items.Why.TheVariants.{Done}
+use Rattle.trace_model.specs.Verdict.{broken_by}
+use Rattle.trace_rows.proofs.OnTalks.{on_talks}
+use Rattle.trace_rows.proofs.Site.{site, peer, launch_talk}
+
+-- the accept text alone
+abbrev pub not_upgraded : List Item
+not_upgraded =
+    In (Accepted peer) ∷ Out (WantClient 0)
+    ∷ In (ClientBytes 0 (codes "GET /w HTTP/1.1\r\nHost: a\r\nUpgrade: websocket\r\nConnection: Upgrade\r\nSec-WebSocket-Key: dGhlIHNhbXBsZSBub25jZQ==\r\nSec-WebSocket-Version: 13\r\n\r\nf")) ∷ Out (Write 0 (codes "HTTP/1.1 101 Switching Protocols\r\nUpgrade: websocket\r\nConnection: Upgrade\r\nSec-WebSocket-Accept: s3pPLMBiTxaQ9kYGzzhZRbK+xOo=\r\n\r\n")) ∷ []
+
+not_upgraded_is_wrong : broken_by site not_upgraded ≡ codes "upgrades" ∷ codes "begins" ∷ []
+unfolding on_talks
+not_upgraded_is_wrong = refl
+
+-- its child is started before the Upgrade
+abbrev pub started_before_upgrade : List Item
+started_before_upgrade =
+    In (Accepted peer) ∷ Out (WantClient 0)
+    ∷ In (ClientBytes 0 (codes "GET /w HTTP/1.1\r\nHost: a\r\nUpgrade: websocket\r\nConnection: Upgrade\r\nSec-WebSocket-Key: dGhlIHNhbXBsZSBub25jZQ==\r\nSec-WebSocket-Version: 13\r\n\r\nf")) ∷ Out (Start 0 0 0 0 (launch_talk (codes "/s") (codes "GET") (codes "/w"))) ∷ Out (Write 0 (codes "HTTP/1.1 101 Switching Protocols\r\nUpgrade: websocket\r\nConnection: Upgrade\r\nSec-WebSocket-Accept: s3pPLMBiTxaQ9kYGzzhZRbK+xOo=\r\n\r\n")) ∷ Out (Upgrade 0 (codes "f")) ∷ []
+
+started_before_upgrade_is_wrong : broken_by site started_before_upgrade ≡ codes "launches" ∷ codes "order" ∷ codes "in_turn" ∷ []
+unfolding on_talks
+started_before_upgrade_is_wrong = refl
+
+-- a byte after the handshake is lost
+abbrev pub another_rest : List Item
+another_rest =
+    In (Accepted peer) ∷ Out (WantClient 0)
+    ∷ In (ClientBytes 0 (codes "GET /w HTTP/1.1\r\nHost: a\r\nUpgrade: websocket\r\nConnection: Upgrade\r\nSec-WebSocket-Key: dGhlIHNhbXBsZSBub25jZQ==\r\nSec-WebSocket-Version: 13\r\n\r\nf")) ∷ Out (Write 0 (codes "HTTP/1.1 101 Switching Protocols\r\nUpgrade: websocket\r\nConnection: Upgrade\r\nSec-WebSocket-Accept: s3pPLMBiTxaQ9kYGzzhZRbK+xOo=\r\n\r\n")) ∷ Out (Upgrade 0 []) ∷ Out (Start 0 0 0 0 (launch_talk (codes "/s") (codes "GET") (codes "/w"))) ∷ []
+
+another_rest_is_wrong : broken_by site another_rest ≡ codes "upgrade_acts" ∷ []
+unfolding on_talks
+another_rest_is_wrong = refl
+
+-- what stands behind the last line is not said
+abbrev pub dropped_rest : List Item
+dropped_rest =
+    In (Accepted peer) ∷ Out (WantClient 0)
+    ∷ In (ClientBytes 0 (codes "GET /w HTTP/1.1\r\nHost: a\r\nUpgrade: websocket\r\nConnection: Upgrade\r\nSec-WebSocket-Key: dGhlIHNhbXBsZSBub25jZQ==\r\nSec-WebSocket-Version: 13\r\n\r\nf")) ∷ Out (Write 0 (codes "HTTP/1.1 101 Switching Protocols\r\nUpgrade: websocket\r\nConnection: Upgrade\r\nSec-WebSocket-Accept: s3pPLMBiTxaQ9kYGzzhZRbK+xOo=\r\n\r\n")) ∷ Out (Upgrade 0 (codes "f")) ∷ Out (Start 0 0 0 0 (launch_talk (codes "/s") (codes "GET") (codes "/w")))
+    ∷ In (Started 0) ∷ Out (WantChild 0) ∷ Out (WantClient 0)
+    ∷ In (ChildBytes 0 (codes "x\n\ny")) ∷ Out (Says 0 ((codes "x") ∷ (codes "") ∷ [])) ∷ Out (WantChild 0)
+    ∷ In (ChildEof 0) ∷ Out (CloseWs 0 1000) ∷ Out (EndInput 0) ∷ Out (Shut 0 Done) ∷ []
+
+dropped_rest_is_wrong : broken_by site dropped_rest ≡ codes "talks" ∷ []
+unfolding on_talks
+dropped_rest_is_wrong = refl
+
+-- a line is said before it has ended
+abbrev pub split_line : List Item
+split_line =
+    In (Accepted peer) ∷ Out (WantClient 0)
+    ∷ In (ClientBytes 0 (codes "GET /w HTTP/1.1\r\nHost: a\r\nUpgrade: websocket\r\nConnection: Upgrade\r\nSec-WebSocket-Key: dGhlIHNhbXBsZSBub25jZQ==\r\nSec-WebSocket-Version: 13\r\n\r\nf")) ∷ Out (Write 0 (codes "HTTP/1.1 101 Switching Protocols\r\nUpgrade: websocket\r\nConnection: Upgrade\r\nSec-WebSocket-Accept: s3pPLMBiTxaQ9kYGzzhZRbK+xOo=\r\n\r\n")) ∷ Out (Upgrade 0 (codes "f")) ∷ Out (Start 0 0 0 0 (launch_talk (codes "/s") (codes "GET") (codes "/w")))
+    ∷ In (Started 0) ∷ Out (WantChild 0) ∷ Out (WantClient 0)
+    ∷ In (ChildBytes 0 (codes "xy")) ∷ Out (Says 0 ((codes "x") ∷ [])) ∷ Out (WantChild 0) ∷ []
+
+split_line_is_wrong : broken_by site split_line ≡ codes "talks" ∷ codes "says" ∷ []
+unfolding on_talks
+split_line_is_wrong = refl
+
+-- another close code
+abbrev pub another_code : List Item
+another_code =
+    In (Accepted peer) ∷ Out (WantClient 0)
+    ∷ In (ClientBytes 0 (codes "GET /w HTTP/1.1\r\nHost: a\r\nUpgrade: websocket\r\nConnection: Upgrade\r\nSec-WebSocket-Key: dGhlIHNhbXBsZSBub25jZQ==\r\nSec-WebSocket-Version: 13\r\n\r\nf")) ∷ Out (Write 0 (codes "HTTP/1.1 101 Switching Protocols\r\nUpgrade: websocket\r\nConnection: Upgrade\r\nSec-WebSocket-Accept: s3pPLMBiTxaQ9kYGzzhZRbK+xOo=\r\n\r\n")) ∷ Out (Upgrade 0 (codes "f")) ∷ Out (Start 0 0 0 0 (launch_talk (codes "/s") (codes "GET") (codes "/w")))
+    ∷ In (Started 0) ∷ Out (WantChild 0) ∷ Out (WantClient 0)
+    ∷ In (ChildEof 0) ∷ Out (CloseWs 0 1001) ∷ Out (EndInput 0) ∷ Out (Shut 0 Done) ∷ []
+
+another_code_is_wrong : broken_by site another_code ≡ codes "talks" ∷ []
+unfolding on_talks
+another_code_is_wrong = refl
