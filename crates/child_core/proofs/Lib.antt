@@ -1,0 +1,10 @@
+pub mod WordLaws
+pub mod DecideLaws
+pub mod BodyLaws
+pub mod KnowsLaws
+pub mod EndLaws
+pub mod AdmitLaws
+pub mod StartLaws
+pub mod ActLaws
+pub mod StepLaws
+pub mod CallLaws
