@@ -1,0 +1,73 @@
+-- What a kid tells of itself, and what its calls do to that.
+use Rattle.std.specs.Prelude.{◌≡◌, ℕ, ◌≤◌, Bool, true, false, Option, Some, None}
+use Rattle.host_base.specs.Outsides.{Rose}
+use Rattle.pipe_pump.specs.declared.ends.PumpEnd.{PumpEnd}
+use Rattle.pipe_pump.specs.declared.ends.PumpEnd.TheVariants.{AtEnd, Broken, Spent, Abandoned}
+use Rattle.pipe_pump.specs.declared.from_pipe.PumpRing.{PumpRing}
+use Rattle.child_edge.specs.declared.kid.Reap.{Reap}
+use Rattle.child_edge.specs.declared.kid.Reap.TheVariants.{Exited, Running, Failed}
+
+pub record KidTells : Type 0 where
+  -- the ring that its output pump was given
+  pub ring : PumpRing
+  -- how each pump ended, once that was given
+  pub out_end : Option PumpEnd
+  pub in_end : Option PumpEnd
+  pub reaped : Bool
+  pub faults : ℕ
+  -- how often each was asked
+  pub out_looks : ℕ
+  pub in_looks : ℕ
+  pub reap_looks : ℕ
+
+-- it did not come to the end of its bytes
+abbrev pub is_failed : PumpEnd → Bool
+is_failed AtEnd = false
+is_failed Broken = true
+is_failed Spent = true
+is_failed Abandoned = true
+
+-- nothing was given yet
+pub record IsOpenKid (a : KidTells) : Type 0 where
+  pub out_open : a.out_end ≡ None
+  pub in_open : a.in_end ≡ None
+  pub running : a.reaped ≡ false
+
+-- .. and it was started on this ring
+pub record IsNewKid (ring : PumpRing) (a : KidTells) : Type 0 where
+  pub of_ring : a.ring ≡ ring
+  pub open_kid : IsOpenKid a
+
+-- what no call changes, and what never falls
+pub record SameKid (a b : KidTells) : Type 0 where
+  pub ring : b.ring ≡ a.ring
+  pub faults : a.faults ≤ b.faults
+  pub out_looks : a.out_looks ≤ b.out_looks
+  pub in_looks : a.in_looks ≤ b.in_looks
+  pub reap_looks : a.reap_looks ≤ b.reap_looks
+
+abbrev pub SameOut : KidTells → KidTells → Type 0
+SameOut a b = b.out_end ≡ a.out_end
+
+abbrev pub SameIn : KidTells → KidTells → Type 0
+SameIn a b = b.in_end ≡ a.in_end
+
+abbrev pub SameReap : KidTells → KidTells → Type 0
+SameReap a b = b.reaped ≡ a.reaped
+
+-- an end was given, for the first time, and a failure only where the count of faults rose
+pub record OutGiven (a b : KidTells) (end : PumpEnd) : Type 0 where
+  pub was_open : a.out_end ≡ None
+  pub given : b.out_end ≡ Some end
+  pub cause : is_failed end ≡ true → Rose a.faults b.faults
+
+pub record InGiven (a b : KidTells) (end : PumpEnd) : Type 0 where
+  pub was_open : a.in_end ≡ None
+  pub given : b.in_end ≡ Some end
+  pub cause : is_failed end ≡ true → Rose a.faults b.faults
+
+-- what reap answered
+abbrev pub Reaps : KidTells → KidTells → Reap → Type 0
+Reaps a b Exited = b.reaped ≡ true
+Reaps a b Running = (a.reaped ≡ false) × (b.reaped ≡ false)
+Reaps a b Failed = (a.reaped ≡ false) × (b.reaped ≡ false) × Rose a.faults b.faults

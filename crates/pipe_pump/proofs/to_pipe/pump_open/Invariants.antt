@@ -1,0 +1,15 @@
+use Rattle.std.proofs.Common.{◌≡◌, ◌≤◌, ◌<◌, ◌^◌, length}
+use Rattle.rtrb.specs.Ring.{received, SameConsumer}
+use Rattle.pipe_pump.specs.Hands.{IsMarkFor}
+use Rattle.pipe_pump.specs.Moved.{Moves}
+use Rattle.pipe_pump.proofs.to_pipe.pump_open.Given as goal
+
+abbrev pub invariant-loop : goal.invariant-loop
+invariant-loop g l =
+    (goal.iterator-loop g).can_next l.iterator' × (goal.iterator-loop g).is_finite l.iterator'
+    × SameConsumer l.initial.consumer l.consumer
+    × Moves (g.P.PipeOut.taken l.initial.pipe) (g.P.PipeOut.taken l.pipe) (received l.initial.consumer) (received l.consumer)
+    × (g.P.PipeOut.faults l.initial.pipe ≤ g.P.PipeOut.faults l.pipe)
+    × (length (received l.consumer) ≡ l.total)
+    × (l.total < 2 ^ 62)
+    × IsMarkFor (received l.hand) l.consumer

@@ -1,0 +1,36 @@
+// What a pump gives back.
+use rtrb::{Consumer, Producer};
+
+/// How a pump ended.
+#[derive(Clone, Copy, Debug, PartialEq, Eq)]
+pub enum PumpEnd {
+    /// All was moved.
+    AtEnd,
+    /// The pipe failed.
+    Broken,
+    /// 2^62 bytes were moved, after which it moves none.
+    Spent,
+    /// The loop dropped its end of the ring: bytes of the output found no room there, or the feed was not
+    /// ended and nothing of it was left.
+    Abandoned,
+}
+
+/// The ends of a ring that a pump had.
+#[derive(Drop)]
+pub enum RingEnd {
+    /// Of a pump that read from a pipe.
+    Output(Producer<u8>),
+    /// Of a pump that wrote to a pipe, and the other end too where the feed was ended.
+    Input {
+        consumer: Consumer<u8>,
+        producer: Option<Producer<u8>>,
+    },
+}
+
+/// What a pump leaves.
+#[derive(Drop)]
+pub struct PumpDone<P> {
+    pub end: PumpEnd,
+    pub pipe: P,
+    pub ring: RingEnd,
+}

@@ -1,0 +1,82 @@
+// A ring that a pump empties.
+ghost use Rattle.std.specs.Prelude.{◌≡◌, ◌<◌, [], true, IfOk};
+ghost use Rattle.rtrb.specs.Ring.{sent, received, known_free};
+ghost use Rattle.pipe_pump.specs.Hands.{IsMarked};
+ghost use Rattle.pipe_pump.specs.Rings.{IsFreshFeed, fed, is_open};
+
+use super::feeder::Feeder;
+use super::hand::{Hand, OneRing};
+use crossbeam_utils::sync::Parker;
+use host_base::NoMemory;
+use rtrb::{Consumer, Producer, RingBuffer};
+use std::alloc::{AllocError, Global};
+use std::snapshot::Snapshot;
+
+/// What a pump to a pipe holds of its ring.
+#[derive(Drop)]
+pub struct FeedRing {
+    source: Source,
+    hand: Consumer<Hand, Global, OneRing>,
+}
+
+/// The ring's end, and where its pump sleeps.
+#[derive(Drop)]
+pub struct Source {
+    consumer: Consumer<u8>,
+    parker: Parker,
+}
+
+/// A ring with room for `size` bytes: the end of the loop, and the end of a pump to a pipe.
+pub fn feed_rings(alloc: Global, size: usize) -> Result<(Feeder, FeedRing), NoMemory>
+    requires { 0 < size }
+    ensures fresh { IfOk result (λ r. IsFreshFeed r.1) }
+    ensures empty { IfOk result (λ r. fed r.0 ≡ []) }
+    ensures open { IfOk result (λ r. is_open r.0 ≡ true) }
+{
+    let (producer, consumer) = RingBuffer::new(alloc, size)?;
+    let (giver, taker) = hand_ring(alloc, &producer)?;
+    let parker = Parker::new(alloc)?;
+    let pump = parker.unparker().clone()?;
+    Ok((
+        Feeder::new(producer, giver, pump),
+        FeedRing {
+            source: Source { consumer, parker },
+            hand: taker,
+        },
+    ))
+}
+
+// A ring by which this producer may be handed over: its mark has gone through already.
+fn hand_ring(
+    alloc: Global,
+    producer: &Producer<u8>,
+) -> Result<
+    (
+        Producer<Hand, Global, OneRing>,
+        Consumer<Hand, Global, OneRing>,
+    ),
+    AllocError,
+>
+    ensures giver { IfOk result (λ r. IsMarked producer.now (sent r.0)) }
+    ensures taker { IfOk result (λ r. IsMarked producer.now (received r.1)) }
+    ensures room { IfOk result (λ r. 0 < known_free r.0) }
+{
+    let (giver, taker) = RingBuffer::with_protocol::<Global, OneRing>(alloc, 2)?;
+    let mut giver = giver;
+    let mut taker = taker;
+    giver.push_reserved(Hand::Mark(Snapshot::of(producer)));
+    taker.slots_beside(&mut giver);
+    let _mark = taker.pop_known();
+    Ok((giver, taker))
+}
+
+impl FeedRing {
+    pub(crate) fn parts(self) -> (Consumer<u8>, Consumer<Hand, Global, OneRing>, Parker)
+        ensures consumer { result.0 ≡ self.source.consumer }
+        ensures hand { result.1 ≡ self.hand }
+    {
+        let FeedRing { source, hand } = self;
+        let Source { consumer, parker } = source;
+        (consumer, hand, parker)
+    }
+}

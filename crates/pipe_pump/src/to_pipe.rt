@@ -1,0 +1,263 @@
+// The pump from a ring to a pipe.
+ghost use Rattle.std.specs.Prelude.{◌≡◌, ◌≤◌, ◌<◌, ◌+◌, ◌^◌, ◌⊎◌, [], true, false, Ok, Some, None, IfOk, IfErr, IfSome, OnOk, length, take as list_take, drop as list_drop};
+ghost use Rattle.std.specs.Io.KnownBytes.{Appends};
+ghost use Rattle.host_base.specs.Outsides.{Rose};
+ghost use Rattle.rtrb.specs.Ring.{sent, received, known_items, IsPair, SameConsumer};
+ghost use Rattle.pipe_pump.specs.Hands.{IsMarkFor};
+ghost use Rattle.pipe_pump.specs.Rings.{IsFreshFeed, IsFeedEndOf, IsWholeFeed, popped, known_left};
+ghost use Rattle.pipe_pump.specs.declared.ends.RingEnd.TheVariants.{Input};
+ghost use Rattle.pipe_pump.specs.Moved.{Takes, Moves, TookFront, Stops};
+
+use super::feed_ring::FeedRing;
+use super::from_pipe::{MOST, PIECE};
+use super::hand::{Hand, OneRing};
+use super::{PipeOut, PipeWrite, PumpDone, PumpEnd, RingEnd};
+use crossbeam_utils::sync::Parker;
+use rtrb::{Consumer, Producer};
+use std::alloc::Global;
+use std::sync::Wait;
+
+/// Moves bytes from a ring to a pipe until the feed has ended or the pipe fails, or the feeder is gone. It
+/// waits for the pipe, and for bytes in the ring.
+pub fn pump_in<R: Wait, P: PipeOut + Drop>(rt: &R, ring: FeedRing, pipe: P) -> PumpDone<P>
+    requires { IsFreshFeed ring }
+    ensures ring { IsFeedEndOf ring result.ring }
+    ensures moved { Takes result.end (P.taken pipe) (P.taken result.pipe) (popped result.ring) }
+    ensures whole { result.end ≡ PumpEnd.AtEnd → IsWholeFeed result.ring }
+    ensures count { P.faults pipe ≤ P.faults result.pipe }
+    ensures cause { result.end ≡ PumpEnd.Broken → Rose (P.faults pipe) (P.faults result.pipe) }
+    ensures spent { result.end ≡ PumpEnd.Spent → length (popped result.ring) ≡ 2 ^ 62 }
+    ensures most { length (popped result.ring) ≡ 2 ^ 62 → (result.end ≡ PumpEnd.Spent) ⊎ (result.end ≡ PumpEnd.Broken) }
+    ensures empty { result.end ≡ PumpEnd.Abandoned → known_left result.ring ≡ [] }
+{
+    let (consumer, hand, parker) = ring.parts();
+    let mut consumer = consumer;
+    let mut hand = hand;
+    let mut pipe = pipe;
+    let mut total = 0;
+    let mut buffer = [0u8; PIECE];
+    match pump_open(
+        rt,
+        &mut pipe,
+        &mut consumer,
+        &mut hand,
+        &parker,
+        &mut total,
+        &mut buffer,
+    ) {
+        Err(end) => done(end, pipe, consumer, None),
+        Ok(producer) => {
+            let mut producer = producer;
+            let end = pump_rest(
+                rt,
+                &mut pipe,
+                &mut consumer,
+                &mut producer,
+                &mut total,
+                &mut buffer,
+            );
+            done(end, pipe, consumer, Some(producer))
+        }
+    }
+}
+
+fn done<P>(
+    end: PumpEnd,
+    pipe: P,
+    consumer: Consumer<u8>,
+    producer: Option<Producer<u8>>,
+) -> PumpDone<P>
+    ensures end { result.end ≡ end }
+    ensures pipe { result.pipe ≡ pipe }
+    ensures ring { result.ring ≡ Input consumer producer }
+{
+    PumpDone {
+        end,
+        pipe,
+        ring: RingEnd::Input { consumer, producer },
+    }
+}
+
+// Moves bytes until the other end of the ring was handed over.
+#[tactic(auto, using(crate::proofs::Fronts::moves_two, crate::proofs::Fronts::stops_two))]
+fn pump_open<R: Wait, P: PipeOut>(
+    rt: &R,
+    pipe: &mut P,
+    consumer: &mut Consumer<u8>,
+    hand: &mut Consumer<Hand, Global, OneRing>,
+    parker: &Parker,
+    total: &mut u64,
+    buffer: &mut [u8],
+) -> Result<Producer<u8>, PumpEnd>
+    requires mark { IsMarkFor (received hand.old) consumer.old }
+    requires total { length (received consumer.old) ≡ total.old }
+    requires most { total.old < 2 ^ 62 }
+    requires room { 0 < length buffer.old }
+    ensures ring { SameConsumer consumer.old consumer.new }
+    ensures moved { OnOk result (Moves (P.taken pipe.old) (P.taken pipe.new) (received consumer.old) (received consumer.new)) }
+    ensures pair { IfOk result (λ p. IsPair p consumer.new) }
+    ensures count { P.faults pipe.old ≤ P.faults pipe.new }
+    ensures stops { IfErr result (λ end. Stops ⊥ (known_items consumer.new ≡ []) end (P.taken pipe.old) (P.taken pipe.new) (P.faults pipe.old) (P.faults pipe.new) (received consumer.old) (received consumer.new)) }
+    ensures total { length (received consumer.new) ≡ total.new }
+    ensures most { OnOk result (total.new < 2 ^ 62) }
+{
+    for _ in rt.forever() {
+        let is_last = consumer.is_abandoned();
+        let count = match move_some(pipe, consumer, total, buffer) {
+            Ok(count) => count,
+            Err(end) => return Err(end),
+        };
+        if count == 0 {
+            if let Some(producer) = take_hand(hand, consumer) {
+                return Ok(producer);
+            }
+            if is_last {
+                return Err(PumpEnd::Abandoned);
+            }
+            parker.park(rt);
+        }
+    }
+    unreachable!()
+}
+
+// Looks whether the other end of the ring was handed over.
+fn take_hand(
+    hand: &mut Consumer<Hand, Global, OneRing>,
+    consumer: &Consumer<u8>,
+) -> Option<Producer<u8>>
+    requires { IsMarkFor (received hand.old) consumer.now }
+    ensures pair { IfSome result (λ p. IsPair p consumer.now) }
+    ensures none { result ≡ None → received hand.new ≡ received hand.old }
+{
+    let _ = consumer;
+    match hand.pop() {
+        Ok(Hand::Given(producer)) => Some(producer),
+        Ok(Hand::Mark(_)) => unreachable!(),
+        Err(_) => None,
+    }
+}
+
+// Moves what is left in a ring whose other end is at hand.
+#[tactic(auto, using(crate::proofs::Fronts::moves_two, crate::proofs::Fronts::stops_two))]
+fn pump_rest<R: Wait, P: PipeOut>(
+    rt: &R,
+    pipe: &mut P,
+    consumer: &mut Consumer<u8>,
+    producer: &mut Producer<u8>,
+    total: &mut u64,
+    buffer: &mut [u8],
+) -> PumpEnd
+    requires pair { IsPair producer.old consumer.old }
+    requires total { length (received consumer.old) ≡ total.old }
+    requires most { total.old < 2 ^ 62 }
+    requires room { 0 < length buffer.old }
+    ensures ring { SameConsumer consumer.old consumer.new }
+    ensures pair { IsPair producer.new consumer.new }
+    ensures count { P.faults pipe.old ≤ P.faults pipe.new }
+    ensures stops { Stops (received consumer.new ≡ sent producer.new) ⊥ result (P.taken pipe.old) (P.taken pipe.new) (P.faults pipe.old) (P.faults pipe.new) (received consumer.old) (received consumer.new) }
+{
+    for _ in rt.forever() {
+        if consumer.slots_beside(producer) == 0 {
+            pipe.finish();
+            return PumpEnd::AtEnd;
+        }
+        if let Err(end) = move_some(pipe, consumer, total, buffer) {
+            return end;
+        }
+    }
+    unreachable!()
+}
+
+// Moves one piece, if there is any. Where that empties the ring the pipe is told before it is written to.
+#[tactic(auto, using(crate::proofs::Fronts::piece_moves, crate::proofs::Fronts::piece_front, crate::proofs::Fronts::moves_none))]
+fn move_some<P: PipeOut>(
+    pipe: &mut P,
+    consumer: &mut Consumer<u8>,
+    total: &mut u64,
+    buffer: &mut [u8],
+) -> Result<usize, PumpEnd>
+    requires total { length (received consumer.old) ≡ total.old }
+    requires most { total.old < 2 ^ 62 }
+    requires room { 0 < length buffer.old }
+    ensures ring { SameConsumer consumer.old consumer.new }
+    ensures moved { OnOk result (Moves (P.taken pipe.old) (P.taken pipe.new) (received consumer.old) (received consumer.new)) }
+    ensures none { result ≡ Ok 0 → known_items consumer.new ≡ [] }
+    ensures count { P.faults pipe.old ≤ P.faults pipe.new }
+    ensures stops { IfErr result (λ end. Stops ⊥ ⊥ end (P.taken pipe.old) (P.taken pipe.new) (P.faults pipe.old) (P.faults pipe.new) (received consumer.old) (received consumer.new)) }
+    ensures total { length (received consumer.new) ≡ total.new }
+    ensures most { OnOk result (total.new < 2 ^ 62) }
+{
+    let room = buffer.len().min((MOST - *total) as usize);
+    let count = consumer.pop_partial_slice(&mut buffer[..room]);
+    if count == 0 {
+        return Ok(0);
+    }
+    *total += count as u64;
+    if !put_told(pipe, &buffer[..count], consumer.slots() == 0) {
+        return Err(PumpEnd::Broken);
+    }
+    if *total == MOST {
+        return Err(PumpEnd::Spent);
+    }
+    Ok(count)
+}
+
+// Writes all of a piece, and answers whether the pipe took it. Where it is the last in the ring, the pipe is
+// told before.
+#[tactic(auto, using(crate::proofs::Fronts::none_joined, crate::proofs::Fronts::none_front, crate::proofs::Fronts::front_after))]
+fn put_told<P: PipeOut>(pipe: &mut P, piece: &[u8], is_last: bool) -> bool
+    ensures all { result ≡ true → Appends (P.taken pipe.old) (P.taken pipe.new) piece.now }
+    ensures part { TookFront (P.taken pipe.old) (P.taken pipe.new) piece.now }
+    ensures count { P.faults pipe.old ≤ P.faults pipe.new }
+    ensures cause { result ≡ false → Rose (P.faults pipe.old) (P.faults pipe.new) }
+{
+    if is_last && tell(pipe) {
+        return false;
+    }
+    put(pipe, piece)
+}
+
+// Writes all of a piece, and answers whether the pipe took it.
+#[tactic(auto, using(crate::proofs::Fronts::taken_more, crate::proofs::Fronts::joined_none))]
+fn put<P: PipeOut>(pipe: &mut P, piece: &[u8]) -> bool
+    ensures all { result ≡ true → Appends (P.taken pipe.old) (P.taken pipe.new) piece.now }
+    ensures part { TookFront (P.taken pipe.old) (P.taken pipe.new) piece.now }
+    ensures count { P.faults pipe.old ≤ P.faults pipe.new }
+    ensures cause { result ≡ false → Rose (P.faults pipe.old) (P.faults pipe.new) }
+{
+    let mut done = 0;
+    while done < piece.len() {
+        match put_some(pipe, piece, done) {
+            Some(count) => done += count,
+            None => return false,
+        }
+    }
+    true
+}
+
+// One write of what comes after the first bytes.
+fn put_some<P: PipeOut>(pipe: &mut P, piece: &[u8], done: usize) -> Option<usize>
+    requires { done < length piece.now }
+    ensures within { IfSome result (λ count. (0 < count) × (done + count ≤ length piece.now)) }
+    ensures took { IfSome result (λ count. Appends (P.taken pipe.old) (P.taken pipe.new) (list_take count (list_drop done piece.now))) }
+    ensures none { result ≡ None → Appends (P.taken pipe.old) (P.taken pipe.new) [] }
+    ensures count { P.faults pipe.old ≤ P.faults pipe.new }
+    ensures cause { result ≡ None → Rose (P.faults pipe.old) (P.faults pipe.new) }
+{
+    match pipe.write(&piece[done..]) {
+        PipeWrite::Took(count) => Some(count),
+        PipeWrite::Failed => None,
+    }
+}
+
+// Tells the pipe that the ring is empty now. It answers whether the pipe failed.
+fn tell<P: PipeOut>(pipe: &mut P) -> bool
+    ensures pipe { Appends (P.taken pipe.old) (P.taken pipe.new) [] }
+    ensures count { P.faults pipe.old ≤ P.faults pipe.new }
+    ensures cause { result ≡ true → Rose (P.faults pipe.old) (P.faults pipe.new) }
+{
+    match pipe.write(&[]) {
+        PipeWrite::Took(_) => false,
+        PipeWrite::Failed => true,
+    }
+}
