@@ -153,7 +153,7 @@ status=$?
 same 'standard output that takes nothing' 0
 
 # ---- the command line
-usage='cgihost: usage: once SITE, serve SITE, check SITE, explain SITE, sample SEED N'
+usage='cgihost: usage: once SITE, serve SITE, check SITE, explain SITE, sample SEED N, upgrade SITE'
 refused() {
     local name=$1
     shift
@@ -169,6 +169,7 @@ refused 'no words'
 refused 'once alone' once
 refused 'a path without a slash' once x=/bin/cat
 refused 'a word too many' once /hello=/bin/cat more
+refused 'once with a file' once site
 refused 'a command that is none' twice /hello=/bin/cat
 refused 'a word that is not UTF-8' once $'/hello=/bin/\xff'
 

@@ -1,9 +1,8 @@
 -- With which number the program ends, and what it says on standard error.
-use Rattle.std.specs.Prelude.{ℕ, ◌/◌, ◌%◌, Bool, true, ◌||◌, ◌==◌, nat_lt, if◌then◌else◌, List, [], ◌∷◌, ◌++◌, codes}
-use Rattle.std.specs.List.{flat_map}
-use Rattle.std.specs.Fmt.{digit_glyph}
-use Rattle.host_run.specs.declared.site.SiteFault.{SiteFault}
-use Rattle.host_run.specs.declared.site.SiteFault.TheVariants.{NotToml, Missing, WrongKind, OutOfRange, Unknown, DoubleScript, NoMemory as NoSiteMemory}
+use Rattle.std.specs.Prelude.{ℕ, List, [], ◌++◌, codes}
+use Rattle.shown_text.specs.Shown.{shown}
+use Rattle.site_file.specs.declared.fault.SiteFault.{SiteFault}
+use Rattle.site_file.specs.declared.fault.SiteFault.TheVariants.{NotToml, Missing, WrongKind, OutOfRange, Unknown, DoubleHost, DoubleScript, NoMemory as NoSiteMemory}
 use Rattle.host_run.specs.declared.top.Status.{Status}
 use Rattle.host_run.specs.declared.top.Status.TheVariants.{Done, Usage, SiteRefused, SiteUnread, WorldRefused, Spent, ReportFault, NoMemory}
 
@@ -17,21 +16,6 @@ number_of Spent = 6
 number_of ReportFault = 7
 number_of NoMemory = 8
 
--- a byte below 0x20, 0x7F or `\`, which isn't shown as it is
-abbrev pub is_hidden : ℕ → Bool
-is_hidden b = nat_lt b 0x20 || b == 0x7F || b == 0x5C
-
--- `\x` and two upper-case hex digits
-abbrev pub escaped : ℕ → List ℕ
-escaped b = codes "\\x" ++ digit_glyph true (b / 16) ∷ digit_glyph true (b % 16) ∷ []
-
-abbrev pub shown_byte : ℕ → List ℕ
-shown_byte b = if is_hidden b then escaped b else b ∷ []
-
--- a text of a site file as it is shown
-abbrev pub shown : List ℕ → List ℕ
-shown text = flat_map shown_byte text
-
 -- what a site was refused for
 abbrev pub refusal_of : SiteFault → List ℕ
 refusal_of NotToml = codes "not TOML"
@@ -39,13 +23,14 @@ refusal_of (Missing key) = codes "missing " ++ shown key
 refusal_of (WrongKind key) = codes "wrong kind " ++ shown key
 refusal_of (OutOfRange key) = codes "out of range " ++ shown key
 refusal_of (Unknown key) = codes "unknown " ++ shown key
+refusal_of (DoubleHost name) = codes "double host " ++ shown name
 refusal_of (DoubleScript path) = codes "double script " ++ shown path
 refusal_of NoSiteMemory = codes "out of memory"
 
 -- the line on standard error
 abbrev pub line_of : Status → List ℕ
 line_of Done = []
-line_of Usage = codes "cgihost: usage: once SITE, serve SITE, check SITE, explain SITE, sample SEED N"
+line_of Usage = codes "cgihost: usage: once SITE, serve SITE, check SITE, explain SITE, sample SEED N, upgrade SITE"
 line_of (SiteRefused fault) = codes "cgihost: site refused: " ++ refusal_of fault
 line_of SiteUnread = codes "cgihost: site file not read"
 line_of WorldRefused = codes "cgihost: could not begin"

@@ -1,9 +1,10 @@
 // What the program says of a status, and the number that it ends with.
 ghost use Rattle.std.specs.Prelude.{◌≡◌, Some};
-ghost use Rattle.std.specs.Char.{encode_utf8};
-ghost use Rattle.cgihost.specs.StatusLines.{number_of as number, line_of, refusal_of, shown, is_hidden};
+ghost use Rattle.cgihost.specs.StatusLines.{number_of as number, line_of, refusal_of};
 
-use host_run::{SiteFault, Status};
+use host_run::Status;
+use shown_text::Shown;
+use site_file::SiteFault;
 use std::fmt;
 
 /// The number that the program ends with.
@@ -30,14 +31,6 @@ pub struct FaultLine<'s>(pub &'s Status);
 #[derive(Clone, Copy)]
 struct Refusal<'s>(&'s SiteFault);
 
-// A text with its unprintable bytes and `\` as `\x` and two hex digits.
-#[derive(Clone, Copy)]
-struct Shown<'s>(&'s str);
-
-// One character of such a text.
-#[derive(Clone, Copy)]
-struct ShownChar(char);
-
 impl fmt::Display for FaultLine<'_> {
     ghost output = { λ line. Some (line_of line.0.now) };
 
@@ -45,7 +38,7 @@ impl fmt::Display for FaultLine<'_> {
         match self.0 {
             Status::Done => Ok(()),
             Status::Usage => f.write_str(
-                "cgihost: usage: once SITE, serve SITE, check SITE, explain SITE, sample SEED N",
+                "cgihost: usage: once SITE, serve SITE, check SITE, explain SITE, sample SEED N, upgrade SITE",
             ),
             Status::SiteRefused(fault) => write!(f, "cgihost: site refused: {}", Refusal(fault)),
             Status::SiteUnread => f.write_str("cgihost: site file not read"),
@@ -67,40 +60,9 @@ impl fmt::Display for Refusal<'_> {
             SiteFault::WrongKind(key) => write!(f, "wrong kind {}", Shown(key.as_str())),
             SiteFault::OutOfRange(key) => write!(f, "out of range {}", Shown(key.as_str())),
             SiteFault::Unknown(key) => write!(f, "unknown {}", Shown(key.as_str())),
+            SiteFault::DoubleHost(name) => write!(f, "double host {}", Shown(name.as_str())),
             SiteFault::DoubleScript(path) => write!(f, "double script {}", Shown(path.as_str())),
             SiteFault::NoMemory => f.write_str("out of memory"),
-        }
-    }
-}
-
-impl fmt::Display for Shown<'_> {
-    ghost output = { λ text. Some (shown text.0.now) };
-
-    fn fmt<W: fmt::Write>(&self, f: &mut fmt::Formatter<W>) -> fmt::Result {
-        let mut rest = self.0.chars();
-        while let Some(c) = rest.next() {
-            f.write(ShownChar(c))?;
-        }
-        Ok(())
-    }
-}
-
-// A character that is not shown as it is.
-fn is_hidden(c: char) -> bool
-    ensures { result ≡ is_hidden c }
-{
-    c < ' ' || c == '\x7f' || c == '\\'
-}
-
-impl fmt::Display for ShownChar {
-    ghost output = { λ c. Some (shown (encode_utf8 c.0)) };
-
-    fn fmt<W: fmt::Write>(&self, f: &mut fmt::Formatter<W>) -> fmt::Result {
-        let c = self.0;
-        if is_hidden(c) {
-            write!(f, "\\x{:02X}", c as u32)
-        } else {
-            f.write_char(c)
         }
     }
 }

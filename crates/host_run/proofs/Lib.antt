@@ -1,6 +1,6 @@
 pub mod SumLaws
 pub mod NextLaws
 pub mod TurnLaws
-pub mod SiteLaws
+pub mod StatusLaws
 pub mod JoinLaws
 pub mod WordLaws

@@ -4,10 +4,12 @@ use Rattle.std.specs.List.{AllByRecursion}
 use Rattle.host_base.specs.declared.site.Site.{Site}
 use Rattle.host_trace.specs.declared.items.Item.{Item}
 use Rattle.host_core.specs.Good.{Good}
-use Rattle.host_run.specs.OneScript.{site_of_one}
+use Rattle.site_file.specs.OneScript.{site_of_one}
 use Rattle.host_run.specs.Served.{Served}
+use Rattle.host_run.specs.Words.{ByScript, InFile, Form, Does, Help, Version}
 use Rattle.host_run.specs.declared.serve.LoopEnd.{LoopEnd}
 use Rattle.host_run.specs.declared.serve.LoopEnd.TheVariants.{Done as LoopDone, Spent as LoopSpent, NoMemory as LoopNoMemory}
+use Rattle.host_run.specs.declared.words.Task.TheVariants.{Once, Check, Upgrade}
 use Rattle.host_run.specs.declared.top.Status.{Status}
 use Rattle.host_run.specs.declared.top.Status.TheVariants.{Done, Usage, SiteRefused, SiteUnread, WorldRefused, Spent, ReportFault, NoMemory}
 
@@ -22,10 +24,15 @@ pub record GaveGood (site : Site) (before : Option (List (List Item))) (now : Li
 abbrev pub GivesGood : Site → Option (List (List Item)) → Option (List (List Item)) → Type 0
 GivesGood site before after = (now : List (List Item)) → after ≡ Some now → GaveGood site before now
 
--- .. of the site of a path and a program; without them nothing is given back
-abbrev pub GivesGoodBy : Option (List ℕ × List ℕ) → Option (List (List Item)) → Option (List (List Item)) → Type 0
+-- .. where they are of the site of one script; the other forms give nothing back
+abbrev pub GivesGoodBy : Option Form → Option (List (List Item)) → Option (List (List Item)) → Type 0
+GivesGoodBy (Some (Does Once (ByScript path program))) before after = GivesGood (site_of_one path program) before after
+GivesGoodBy (Some (Does Once (InFile name))) before after = after ≡ before
+GivesGoodBy (Some (Does Check place)) before after = after ≡ before
+GivesGoodBy (Some (Does Upgrade place)) before after = after ≡ before
+GivesGoodBy (Some Help) before after = after ≡ before
+GivesGoodBy (Some Version) before after = after ≡ before
 GivesGoodBy None before after = after ≡ before
-GivesGoodBy (Some parts) before after = GivesGood (site_of_one parts.0 parts.1) before after
 
 -- exactly one trace was given back in this call, and this is so of it by how its loop ended
 pub record GaveOne (end : LoopEnd) (before : Option (List (List Item))) (now : List (List Item)) : Type 0 where
@@ -39,13 +46,22 @@ abbrev pub GivesOneBy : LoopEnd → Option (List (List Item)) → Option (List (
 GivesOneBy end before after = (now : List (List Item)) → after ≡ Some now → GaveOne end before now
 
 -- by the status: exactly one trace where the loop ended or was spent, none where there was no loop, none or
--- an empty one where memory was wanting; the other statuses don't come
+-- an empty one where memory was wanting
 abbrev pub GivesOne : Status → Option (List (List Item)) → Option (List (List Item)) → Type 0
 GivesOne Done before after = GivesOneBy LoopDone before after
 GivesOne Spent before after = GivesOneBy LoopSpent before after
 GivesOne NoMemory before after = (after ≡ before) ⊎ GivesOneBy LoopNoMemory before after
 GivesOne Usage before after = after ≡ before
 GivesOne WorldRefused before after = after ≡ before
-GivesOne (SiteRefused fault) before after = ⊥
-GivesOne SiteUnread before after = ⊥
+GivesOne (SiteRefused fault) before after = after ≡ before
+GivesOne SiteUnread before after = after ≡ before
 GivesOne ReportFault before after = ⊥
+
+-- what the form gives back
+abbrev pub GivesBy : Option Form → Status → Option (List (List Item)) → Option (List (List Item)) → Type 0
+GivesBy (Some (Does Once place)) status before after = GivesOne status before after
+GivesBy (Some (Does Check place)) status before after = after ≡ before
+GivesBy (Some (Does Upgrade place)) status before after = after ≡ before
+GivesBy (Some Help) status before after = after ≡ before
+GivesBy (Some Version) status before after = after ≡ before
+GivesBy None status before after = after ≡ before

@@ -4,8 +4,8 @@ pub mod ListedWords
 pub mod MemoryWords
 pub mod StoreWords
 pub mod WorldWords
-pub mod OneScript
 pub mod Served
 pub mod Words
+pub mod Statuses
 pub mod Given
 pub mod SinkWords

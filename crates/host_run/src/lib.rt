@@ -3,13 +3,13 @@
 #![tactic(auto)]
 
 pub mod memory;
+mod report;
 mod serve;
-mod site;
+mod sites;
 mod top;
 mod words;
 
 pub use serve::{LoopEnd, serve_one};
-pub use site::{SiteFault, one_script};
 pub use top::{Status, run};
 
 #[cfg(test)]

@@ -1,5 +1,6 @@
 // What no clause says: the table of what fits at its edges, runs of the outside in memory from its first
 // event to its last, and runs by the top call.
+mod commands;
 mod drive;
 mod fits;
 mod heads;

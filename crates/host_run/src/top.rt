@@ -1,15 +1,18 @@
 // The top call.
-ghost use Rattle.std.specs.Prelude.{◌≡◌, ◌↔◌, None};
+ghost use Rattle.std.specs.Prelude.{◌≡◌, ◌↔◌, None, Some, true, false};
 ghost use Rattle.host_base.specs.LimitRanges.{AreInRange};
 ghost use Rattle.host_base.specs.Outsides.{Rose};
-ghost use Rattle.host_run.specs.Words.{site_of_words};
-ghost use Rattle.host_run.specs.Given.{GivesGood, GivesGoodBy, GivesOne};
+ghost use Rattle.host_run.specs.Given.{GivesGood, GivesGoodBy, GivesOne, GivesBy};
+ghost use Rattle.host_run.specs.Statuses.{InOrder, ReadsBy, ReportsBy, SitesBy, enters_world, is_run, reads_store, writes_report};
+ghost use Rattle.host_run.specs.Words.{Does, form_of, is_served_by, place_at};
 
+use super::report::{HELP, VERSION, check, put, upgrade};
 use super::serve::{LoopEnd, serve_one};
-use super::site::{SiteFault, one_script};
-use super::words::site_words;
+use super::sites::site_at;
+use super::words::{Command, Place, Task, form_of};
 use host_base::{Sink, Site, SiteStore};
 use host_trace::{EnterFault, Mode, World};
+use site_file::SiteFault;
 use std::alloc::Global;
 use std::thread::Threads;
 
@@ -39,7 +42,7 @@ const TURNS: u64 = 1 << 62;
 // Serves one connection.
 fn run_once<W: World>(alloc: Global, site: &Site, world: &mut W) -> Status
     requires limits { AreInRange site.now.limits }
-    ensures usage { (result ≡ Status.Usage) → ⊥ }
+    ensures status { is_run result ≡ true }
     ensures good { GivesGood site.now (W.given world.old) (W.given world.new) }
     ensures one { GivesOne result (W.given world.old) (W.given world.new) }
     ensures out { W.out world.new ≡ W.out world.old }
@@ -59,30 +62,74 @@ fn run_once<W: World>(alloc: Global, site: &Site, world: &mut W) -> Status
     }
 }
 
-/// Runs the host by the words that follow the program's name. `once PATH=PROGRAM` serves one connection of
-/// the world, with one script under the path; no other words have a form yet, so neither the store of site
-/// files nor the report is used, nor is a thread started.
+// Does a task with the site that is said at a place.
+fn run_at<F: SiteStore, S: Sink, W: World>(
+    alloc: Global,
+    task: Task,
+    place: &Place,
+    store: &mut F,
+    report: &mut S,
+    world: &mut W,
+) -> Status
+    requires { is_served_by task (place_at place.now) ≡ true }
+    ensures site { ReadsBy (F.stored store.old) (place_at place.now) result }
+    ensures good { GivesGoodBy (Some (Does task (place_at place.now))) (W.given world.old) (W.given world.new) }
+    ensures one { GivesBy (Some (Does task (place_at place.now))) result (W.given world.old) (W.given world.new) }
+    ensures out { W.out world.new ≡ W.out world.old }
+    ensures report { ReportsBy (F.stored store.old) (Some (Does task (place_at place.now))) result (S.written report.old) (S.written report.new) }
+    ensures unread { result ≡ Status.SiteUnread → Rose (F.faults store.old) (F.faults store.new) }
+    ensures failed { result ≡ Status.WorldRefused → Rose (W.faults world.old) (W.faults world.new) }
+    ensures fault { result ≡ Status.ReportFault → Rose (S.faults report.old) (S.faults report.new) }
+    ensures order { InOrder result store.old store.new world.old world.new report.old report.new }
+    ensures no_store { reads_store (Some (Does task (place_at place.now))) ≡ false → store.new ≡ store.old }
+    ensures no_world { enters_world (Some (Does task (place_at place.now))) ≡ false → world.new ≡ world.old }
+    ensures no_report { writes_report (Some (Does task (place_at place.now))) ≡ false → report.new ≡ report.old }
+{
+    let site = match site_at(alloc, place, store) {
+        Ok(site) => site,
+        Err(status) => return status,
+    };
+    match task {
+        Task::Once => run_once(alloc, &site, world),
+        Task::Check => check(alloc, &site, report),
+        Task::Upgrade => upgrade(alloc, &site, report),
+    }
+}
+
+/// Runs the host by the words that follow the program's name. SITE is PATH=PROGRAM, which needs no file, or
+/// the name of a site file, which is read from the store.
+///
+/// - `once PATH=PROGRAM` serves one connection of the world. It writes no report.
+/// - `check SITE` reports how many scripts the site has, and `upgrade SITE` the site as a version 2 file.
+/// - `--help` and `--version` report what they say.
+///
+/// No thread is started.
 pub fn run<R: Threads + Sync, F: SiteStore, S: Sink, W: World>(
     _rt: &R,
     alloc: Global,
     words: &[String],
-    _store: &mut F,
-    _report: &mut S,
+    store: &mut F,
+    report: &mut S,
     world: &mut W,
 ) -> Status
-    ensures usage { (result ≡ Status.Usage) ↔ (site_of_words words.now ≡ None) }
-    ensures good { GivesGoodBy (site_of_words words.now) (W.given world.old) (W.given world.new) }
-    ensures one { GivesOne result (W.given world.old) (W.given world.new) }
+    ensures usage { (result ≡ Status.Usage) ↔ (form_of words.now ≡ None) }
+    ensures site { SitesBy (F.stored store.old) (form_of words.now) result }
+    ensures good { GivesGoodBy (form_of words.now) (W.given world.old) (W.given world.new) }
+    ensures one { GivesBy (form_of words.now) result (W.given world.old) (W.given world.new) }
     ensures out { W.out world.new ≡ W.out world.old }
+    ensures report { ReportsBy (F.stored store.old) (form_of words.now) result (S.written report.old) (S.written report.new) }
+    ensures unread { result ≡ Status.SiteUnread → Rose (F.faults store.old) (F.faults store.new) }
     ensures failed { result ≡ Status.WorldRefused → Rose (W.faults world.old) (W.faults world.new) }
-    ensures store { _store.new ≡ _store.old }
-    ensures report { _report.new ≡ _report.old }
+    ensures fault { result ≡ Status.ReportFault → Rose (S.faults report.old) (S.faults report.new) }
+    ensures order { InOrder result store.old store.new world.old world.new report.old report.new }
+    ensures no_store { reads_store (form_of words.now) ≡ false → store.new ≡ store.old }
+    ensures no_world { enters_world (form_of words.now) ≡ false → world.new ≡ world.old }
+    ensures no_report { writes_report (form_of words.now) ≡ false → report.new ≡ report.old }
 {
-    let Some((path, program)) = site_words(words) else {
-        return Status::Usage;
-    };
-    match one_script(alloc, path, program) {
-        Ok(site) => run_once(alloc, &site, world),
-        Err(_) => Status::NoMemory,
+    match form_of(words) {
+        Some(Command::Does(task, place)) => run_at(alloc, task, &place, store, report, world),
+        Some(Command::Help) => put(report, HELP),
+        Some(Command::Version) => put(report, VERSION),
+        None => Status::Usage,
     }
 }

@@ -92,7 +92,7 @@ pub fn world_of(alloc: Global, heard: &[Heard]) -> Result<MemoryWorld, NoMemory>
     world_refusing(alloc, heard, &[])
 }
 
-fn words_of(alloc: Global, words: &[&str]) -> Result<Vec<String>, NoMemory> {
+pub fn words_of(alloc: Global, words: &[&str]) -> Result<Vec<String>, NoMemory> {
     let mut all = Vec::new(alloc);
     for word in words {
         all.push(word.to_string(alloc)?)?;

@@ -169,7 +169,15 @@ fn words_of_no_form(rt: HostRuntime) -> Result<(), Fail> {
         &["once", "/hello=/bin/cat", "more"],
         &["serve", "/hello=/bin/cat"],
         &["Once", "/hello=/bin/cat"],
-        &["check", "site"],
+        &["once", "site"],
+        &["check"],
+        &["check", ""],
+        &["check", "x=/bin/cat"],
+        &["upgrade"],
+        &["upgrade", "site", "more"],
+        &["help"],
+        &["--help", "site"],
+        &["once", "--version"],
     ] {
         let mut world = world_of(rt.alloc(), &FIRST)?;
         let status = runs(&rt, rt.alloc(), words, &mut world)?;

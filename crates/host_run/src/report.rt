@@ -1,0 +1,98 @@
+// The reports of commands that need no loop.
+ghost use Rattle.std.specs.Prelude.{◌≡◌, ◌<◌, ◌^◌, Ok, IfOk, sum_by, length, string_bytes};
+ghost use Rattle.host_base.specs.Outsides.{Rose};
+ghost use Rattle.host_base.specs.SiteRules.{HasHosts, IsServed};
+ghost use Rattle.site_file.specs.SiteFile.{IsSaid, site_said};
+ghost use Rattle.host_run.specs.Statuses.{IsReported, PutsBy, check_text, script_count, scripts_len};
+
+use super::top::Status;
+use host_base::{NoMemory, Sink, SinkFault, Site, VHost};
+use site_file::write_site;
+use std::alloc::Global;
+
+/// The text of `--help`.
+pub const HELP: &str =
+    "cgihost runs a program for a request and answers from its output (CGI/1.1, RFC 3875).
+
+  cgihost once PATH=PROGRAM    serves one connection over standard input and output
+  cgihost check SITE           reads the site and says how many scripts it has
+  cgihost upgrade SITE         writes the site as a site file of version 2
+  cgihost --help               writes this text
+  cgihost --version            writes the version
+
+SITE is PATH=PROGRAM, a path and the file of the program that is served under it, or the name of a site file.
+
+It ends with one of these, and says which on standard error where it is not 0:
+  0  the work was done
+  2  the words have none of these forms
+  3  the site file has the fault that is named
+  4  the site file could not be read
+  5  the world could not be entered, as where an address is taken
+  6  all turns were used
+  7  the report could not be written
+  8  memory was wanting
+
+The manual is README.md and the pages of docs/ in the sources of cgihost.
+";
+
+/// The text of `--version`.
+pub const VERSION: &str = "cgihost 1\n";
+
+// How many scripts hosts have. Each has fewer than 2^32, and there are fewer than 2^32 hosts.
+fn script_count(hosts: &[VHost]) -> u64
+    requires { HasHosts hosts.now }
+    ensures { result ≡ sum_by scripts_len hosts.now }
+{
+    let mut count = 0;
+    for host in hosts {
+        count += host.scripts.len() as u64;
+    }
+    count
+}
+
+fn check_text(alloc: Global, site: &Site) -> Result<String, NoMemory>
+    requires { IsServed site.now }
+    ensures { IfOk result (λ text. string_bytes text ≡ check_text site.now) }
+{
+    let count = script_count(site.hosts.as_slice());
+    Ok(format!(in alloc; "ok: {count} scripts\n")?)
+}
+
+/// Puts a report that is one text.
+pub fn put<S: Sink>(report: &mut S, text: &str) -> Status
+    ensures status { IsReported result }
+    ensures text { PutsBy (λ put. put ≡ text.now) result (S.written report.old) (S.written report.new) }
+    ensures fault { result ≡ Status.ReportFault → Rose (S.faults report.old) (S.faults report.new) }
+{
+    match report.put(text.as_bytes()) {
+        Ok(()) => Status::Done,
+        Err(SinkFault::Failed) => Status::ReportFault,
+        Err(SinkFault::NoMemory) => Status::NoMemory,
+    }
+}
+
+/// Reports how many scripts a site has.
+pub fn check<S: Sink>(alloc: Global, site: &Site, report: &mut S) -> Status
+    requires { IsServed site.now }
+    ensures status { IsReported result }
+    ensures text { PutsBy (λ put. put ≡ check_text site.now) result (S.written report.old) (S.written report.new) }
+    ensures fault { result ≡ Status.ReportFault → Rose (S.faults report.old) (S.faults report.new) }
+{
+    match check_text(alloc, site) {
+        Ok(text) => put(report, text.as_str()),
+        Err(_) => Status::NoMemory,
+    }
+}
+
+/// Reports a version 2 file that says the site.
+pub fn upgrade<S: Sink>(alloc: Global, site: &Site, report: &mut S) -> Status
+    requires { IsSaid site.now }
+    ensures status { IsReported result }
+    ensures text { PutsBy (λ put. site_said put ≡ Ok site.now) result (S.written report.old) (S.written report.new) }
+    ensures fault { result ≡ Status.ReportFault → Rose (S.faults report.old) (S.faults report.new) }
+{
+    match write_site(alloc, site) {
+        Ok(text) => put(report, text.as_str()),
+        Err(_) => Status::NoMemory,
+    }
+}
