@@ -10,7 +10,7 @@ use Rattle.host_base.specs.declared.cause.Cause.TheVariants.{BadChunk}
 use Rattle.body_framing.specs.declared.place.Place.{Place}
 use Rattle.body_framing.specs.declared.place.Place.TheVariants.{Size, Extension, SizeEnd, Data, DataEnd, DataLf, Trailer, TrailerEnd, End, Bad}
 use Rattle.body_framing.specs.Places.{is_text, is_extension_start, after_line, after_data, after_trailer_line, place_after, is_data, is_done}
-use Rattle.body_framing.specs.Chunked.{crlf, with_crlf, IsHex, IsText, IsExtension, IsSizeLine, Chunk, IsChunk, IsTrailer, text_of, data_of, with_digit}
+use Rattle.body_framing.specs.Chunked.{crlf, with_crlf, IsHex, IsText, IsExtension, IsSizeLine, Chunk, IsChunk, IsTrailer, chunk_bytes, data_of, with_digit}
 
 -- a chunked body of whatever length
 pub record IsBody (bytes decoded : List ℕ) : Type 0 where
@@ -21,7 +21,7 @@ pub record IsBody (bytes decoded : List ℕ) : Type 0 where
   pub ends : IsSizeLine last 0
   pub lines : All IsTrailer trailers
   pub short : sum_by length trailers ≤ 8192
-  pub bytes_are : bytes ≡ flat_map text_of chunks ++ (last ++ (flat_map with_crlf trailers ++ crlf))
+  pub bytes_are : bytes ≡ flat_map chunk_bytes chunks ++ (last ++ (flat_map with_crlf trailers ++ crlf))
   pub decoded_is : decoded ≡ flat_map data_of chunks
 
 -- trailer lines, and the empty line behind them
@@ -272,7 +272,7 @@ body_back s d r = go (fold with_digit 0 r.more) refl r.follows
       short = f.follows.short;
       bytes_are = r.bytes_are
           ∙ ap (λ (l : List ℕ). r.more ++ (r.extension ++ (crlf ++ l))) (f.bytes_are ∙ ap (λ (l : List ℕ). f.front ++ (crlf ++ l)) f.follows.bytes_are)
-          ∙ sym (joined_chunk r.more r.extension f.front (flat_map text_of f.follows.chunks) (f.follows.last ++ (flat_map with_crlf f.follows.trailers ++ crlf)));
+          ∙ sym (joined_chunk r.more r.extension f.front (flat_map chunk_bytes f.follows.chunks) (f.follows.last ++ (flat_map with_crlf f.follows.trailers ++ crlf)));
       decoded_is = f.decoded_is ∙ ap (λ (l : List ℕ). f.front ++ l) f.follows.decoded_is;
     }
 

@@ -8,7 +8,7 @@ use Rattle.std.proofs.lemmas.List.Elements.{All-head, All-tail}
 use Rattle.body_framing.specs.declared.place.Place.{Place}
 use Rattle.body_framing.specs.declared.place.Place.TheVariants.{Size, Extension, SizeEnd, Data, DataEnd, DataLf, Trailer, TrailerEnd, End, Bad}
 use Rattle.body_framing.specs.Places.{is_text, is_extension_start, after_line, after_data, after_trailer_line, place_after, is_data, is_done}
-use Rattle.body_framing.specs.Chunked.{crlf, with_crlf, IsHex, IsText, IsExtension, Chunk, IsChunk, IsTrailer, text_of, data_of, with_digit}
+use Rattle.body_framing.specs.Chunked.{crlf, with_crlf, IsHex, IsText, IsExtension, Chunk, IsChunk, IsTrailer, chunk_bytes, data_of, with_digit}
 use Rattle.body_framing.proofs.Rests.{AfterLine, AfterTrailerLine, IsAtLf, IsBody, IsInData, IsInExtension, IsInLine, IsInSize, IsLines, Rest, RestOfTrailers, joined_chunk, joined_last, joined_line}
 
 -- ---- a step forth: what may follow at a place begins with a byte that may stand there
@@ -151,7 +151,7 @@ in_data_line (suc n) tail d some h = h
 pub body_forth : (s d : List ℕ) → IsBody s d → IsInSize 0 0 s d
 body_forth s d r = go r.chunks r.each r.bytes_are r.decoded_is
   where
-    go : (chunks : List Chunk) → All IsChunk chunks → s ≡ flat_map text_of chunks ++ (r.last ++ (flat_map with_crlf r.trailers ++ crlf))
+    go : (chunks : List Chunk) → All IsChunk chunks → s ≡ flat_map chunk_bytes chunks ++ (r.last ++ (flat_map with_crlf r.trailers ++ crlf))
         → d ≡ flat_map data_of chunks → IsInSize 0 0 s d
     go [] each e de = record {
       more = r.ends.digits;
@@ -170,7 +170,7 @@ body_forth s d r = go r.chunks r.each r.bytes_are r.decoded_is
         let chunk = All-head IsChunk c chunks each in
         let sized = chunk.sized in
         let rest = r.last ++ (flat_map with_crlf r.trailers ++ crlf) in
-        let tail = c.data_bytes ++ (crlf ++ (flat_map text_of chunks ++ rest)) in
+        let tail = c.data_bytes ++ (crlf ++ (flat_map chunk_bytes chunks ++ rest)) in
         record {
           more = sized.digits;
           extension = sized.extension;
@@ -179,11 +179,11 @@ body_forth s d r = go r.chunks r.each r.bytes_are r.decoded_is
           some = omega (arith, sized.some);
           few = omega (arith, sized.few);
           extends = sized.extends;
-          bytes_are = e ∙ ap (λ (l : List ℕ). l ++ (c.data_bytes ++ crlf) ++ flat_map text_of chunks ++ rest) sized.line_is
-              ∙ joined_chunk sized.digits sized.extension c.data_bytes (flat_map text_of chunks) rest;
+          bytes_are = e ∙ ap (λ (l : List ℕ). l ++ (c.data_bytes ++ crlf) ++ flat_map chunk_bytes chunks ++ rest) sized.line_is
+              ∙ joined_chunk sized.digits sized.extension c.data_bytes (flat_map chunk_bytes chunks) rest;
           follows = subst (λ (n : ℕ). AfterLine n tail d) sized.size_is (in_data_line (length c.data_bytes) tail d chunk.some (record {
             front = c.data_bytes;
-            tail = flat_map text_of chunks ++ rest;
+            tail = flat_map chunk_bytes chunks ++ rest;
             rest = flat_map data_of chunks;
             count_is = refl;
             bytes_are = refl;

@@ -52,8 +52,8 @@ abbrev pub data_of : Chunk → List ℕ
 data_of chunk = chunk.data_bytes
 
 -- chunk = chunk-size [ chunk-ext ] CRLF chunk-data CRLF
-abbrev pub text_of : Chunk → List ℕ
-text_of chunk = chunk.line ++ with_crlf chunk.data_bytes
+abbrev pub chunk_bytes : Chunk → List ℕ
+chunk_bytes chunk = chunk.line ++ with_crlf chunk.data_bytes
 
 pub record IsChunk (chunk : Chunk) : Type 0 where
   pub some : 0 < length chunk.data_bytes
@@ -73,7 +73,7 @@ pub record IsChunkedBody (limit : ℕ) (bytes decoded : List ℕ) : Type 0 where
   pub ends : IsSizeLine last 0
   pub lines : All IsTrailer trailers
   pub short : sum_by length trailers ≤ most_trailers
-  pub bytes_are : bytes ≡ flat_map text_of chunks ++ (last ++ (flat_map with_crlf trailers ++ crlf))
+  pub bytes_are : bytes ≡ flat_map chunk_bytes chunks ++ (last ++ (flat_map with_crlf trailers ++ crlf))
   pub decoded_is : decoded ≡ flat_map data_of chunks
   pub within : length decoded ≤ limit
 

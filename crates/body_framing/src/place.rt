@@ -1,8 +1,15 @@
 // Where a reader stands within a chunked body (RFC 9112 7.1).
 ghost use Rattle.std.specs.Prelude.{◌≡◌, ◌+◌, ◌*◌, ◌<◌, nat_lt, nat_le, if◌then◌else◌};
-ghost use Rattle.body_framing.specs.Places.{after_data, after_digit, after_extension, after_line, after_other, after_trailer, after_trailer_line, is_done, is_extension_start, is_text, place_after};
+ghost use Rattle.body_framing.specs.Places.{most_digits, after_data, after_digit, after_extension, after_line, after_other, after_trailer, after_trailer_line, is_done, is_extension_start, is_text, place_after};
 
 use host_base::{Cause, hex_digit};
+
+// Hexadecimal digits of a size line, bytes of its extension, and bytes of all trailer lines without their ends.
+const MOST_DIGITS: u64 = 16;
+
+const MOST_EXTENSION: u64 = 256;
+
+const MOST_TRAILERS: u64 = 8192;
 
 /// The place of the next byte within a chunked body.
 #[derive(Clone, Copy, Debug, PartialEq, Eq)]
@@ -53,9 +60,9 @@ fn with_digit(room: u64, size: u64, digit: u8) -> Option<u64>
 
 fn after_digit(room: u64, digits: u64, size: u64, digit: u8) -> Place
     requires { digit < 16 }
-    ensures { result ≡ (if nat_lt digits 16 then after_digit room digits (size * 16 + digit) else Place.Bad Cause.BadChunk) }
+    ensures { result ≡ (if nat_lt digits most_digits then after_digit room digits (size * 16 + digit) else Place.Bad Cause.BadChunk) }
 {
-    if digits >= 16 {
+    if digits >= MOST_DIGITS {
         return Place::Bad(Cause::BadChunk);
     }
     match with_digit(room, size, digit) {
@@ -86,7 +93,7 @@ fn after_extension(size: u64, count: u64, byte: u8) -> Place
 {
     if byte == b'\r' {
         Place::SizeEnd { size }
-    } else if is_text(byte) && count < 256 {
+    } else if is_text(byte) && count < MOST_EXTENSION {
         Place::Extension {
             size,
             count: count + 1,
@@ -114,7 +121,7 @@ fn after_trailer(total: u64, filled: bool, byte: u8) -> Place
 {
     if byte == b'\r' {
         Place::TrailerEnd { total, filled }
-    } else if is_text(byte) && total < 8192 {
+    } else if is_text(byte) && total < MOST_TRAILERS {
         Place::Trailer {
             total: total + 1,
             filled: true,

@@ -63,6 +63,43 @@ const BODIES: [(&[u8], usize, Option<Cause>, &[u8]); 53] = [
     (b"0\r\n\rA", 5, Some(Cause::BadChunk), b""),
 ];
 
+// The same with at most 31 bytes of data: digits above 9, in both cases.
+const LETTERED: [(&[u8], usize, Option<Cause>, &[u8]); 8] = [
+    (b"a\r\n0123456789\r\n0\r\n\r\n", 20, None, b"0123456789"),
+    (b"A\r\n0123456789\r\n0\r\n\r\n", 20, None, b"0123456789"),
+    (
+        b"0f;A=F\r\n0123456789abcde\r\n0\r\n\r\n",
+        30,
+        None,
+        b"0123456789abcde",
+    ),
+    (
+        b"1F\r\n0123456789012345678901234567890\r\n0\r\n\r\n",
+        42,
+        None,
+        b"0123456789012345678901234567890",
+    ),
+    (
+        b"000000000000001f\r\n0123456789012345678901234567890\r\n0\r\n\r\nPOST",
+        56,
+        None,
+        b"0123456789012345678901234567890",
+    ),
+    (
+        b"F\r\n0123456789abcde\r\ne\r\n0123456789abcd\r\n2\r\n\r\n\r\n0\r\n\r\n",
+        51,
+        None,
+        b"0123456789abcde0123456789abcd\r\n",
+    ),
+    (b"20\r\n", 2, Some(Cause::BodyTooLong), b""),
+    (
+        b"1e\r\n012345678901234567890123456789\r\n2\r\n",
+        37,
+        Some(Cause::BodyTooLong),
+        b"012345678901234567890123456789",
+    ),
+];
+
 // A body with a part that is repeated: what stands before it, the part, how often, what follows, and the
 // answer as in the table above.
 const LONG_BODIES: [(&[u8], usize, &[u8], usize, Option<Cause>); 5] = [
@@ -97,25 +134,25 @@ fn is_due(step: ChunkStep, count: usize, before: usize, end: usize, cause: Optio
 }
 
 // Whether the text in a piece of `first` bytes and then in pieces of `size` bytes has the answer that is
-// due, each time.
+// due, each time, with at most `limit` bytes of data.
 fn is_read(
     alloc: Global,
+    limit: u64,
     text: &[u8],
     cut: (usize, usize),
-    end: usize,
-    cause: Option<Cause>,
+    due: (usize, Option<Cause>),
     data: Option<&[u8]>,
 ) -> Result<bool, NoMemory> {
-    let mut chunks = Chunks::new(alloc, 5);
+    let mut chunks = Chunks::new(alloc, limit);
     let (first, rest) = text.split_at(cut.0.min(text.len()));
     let mut count = first.len();
-    if !is_due(chunks.feed(first)?, count, 0, end, cause) {
+    if !is_due(chunks.feed(first)?, count, 0, due.0, due.1) {
         return Ok(false);
     }
     for piece in rest.chunks(cut.1.max(1)) {
         let before = count;
         count = before.saturating_add(piece.len());
-        if !is_due(chunks.feed(piece)?, count, before, end, cause) {
+        if !is_due(chunks.feed(piece)?, count, before, due.0, due.1) {
             return Ok(false);
         }
     }
@@ -126,17 +163,53 @@ fn is_read(
     Ok(is_right)
 }
 
+// Whether it has it whole, byte by byte, and cut in two at each place.
+fn is_read_however_cut(
+    alloc: Global,
+    limit: u64,
+    text: &[u8],
+    due: (usize, Option<Cause>),
+    data: Option<&[u8]>,
+) -> Result<bool, NoMemory> {
+    for first in 0..text.len() + 1 {
+        if !is_read(alloc, limit, text, (first, text.len()), due, data)? {
+            return Ok(false);
+        }
+    }
+    is_read(alloc, limit, text, (0, 1), due, data)
+}
+
 #[test]
 fn bodies_however_they_are_cut(rt: HostRuntime) {
     for (text, end, cause, data) in BODIES.iter() {
-        let right = is_read(rt.alloc(), text, (0, 1), *end, *cause, Some(data));
+        let right = is_read_however_cut(rt.alloc(), 5, text, (*end, *cause), Some(data));
         assert!(&rt; right == Ok(true), "{}", text.len());
-        for first in 0..text.len() + 1 {
-            let cut = (first, text.len());
-            let right = is_read(rt.alloc(), text, cut, *end, *cause, Some(data));
-            assert!(&rt; right == Ok(true), "{} {}", text.len(), first);
+    }
+    for (text, end, cause, data) in LETTERED.iter() {
+        let right = is_read_however_cut(rt.alloc(), 31, text, (*end, *cause), Some(data));
+        assert!(&rt; right == Ok(true), "{}", text.len());
+    }
+}
+
+// The same for a long text: cut at every 31st place and at the places before and at the end.
+fn is_read_cut_in_places(
+    alloc: Global,
+    text: &[u8],
+    due: (usize, Option<Cause>),
+) -> Result<bool, NoMemory> {
+    for count in 0..text.len() / 31 + 1 {
+        let cut = (count.saturating_mul(31), text.len());
+        if !is_read(alloc, 5, text, cut, due, None)? {
+            return Ok(false);
         }
     }
+    for before in 0..16 {
+        let cut = (due.0.saturating_sub(before), 1);
+        if !is_read(alloc, 5, text, cut, due, None)? {
+            return Ok(false);
+        }
+    }
+    is_read(alloc, 5, text, (0, 1), due, None)
 }
 
 fn long_body(
@@ -158,10 +231,8 @@ fn the_limits_edges(rt: HostRuntime) {
     for (before, times, after, end, cause) in LONG_BODIES.iter() {
         match long_body(rt.alloc(), before, *times, after) {
             Ok(text) => {
-                for cut in [(0, 1), (text.len(), 1), (end - 1, 1), (*end, 7)] {
-                    let right = is_read(rt.alloc(), &text, cut, *end, *cause, None);
-                    assert!(&rt; right == Ok(true), "{} {}", times, cut.0);
-                }
+                let right = is_read_cut_in_places(rt.alloc(), &text, (*end, *cause));
+                assert!(&rt; right == Ok(true), "{}", times);
             }
             Err(_) => panic!(&rt; "no memory"),
         }

@@ -3,3 +3,4 @@ pub mod HeadLaws
 pub mod SecondWord
 pub mod ReadLaws
 pub mod Computed
+pub mod RefusalLaws

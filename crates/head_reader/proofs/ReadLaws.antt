@@ -268,7 +268,7 @@ answer_stays limits before text more other = go (front_of (take limits.head text
         (omega (arith, cut.0, length-take limits.head text)) in
         ap (step_by_front limits before (length (text ++ more))) more_too ∙ sym (ap (step_by_front limits before (length text)) is)
 
-read_at : (limits : Limits) (bytes : List ℕ) (before : ℕ) → leading_crlf bytes ≡ before
+pub read_at : (limits : Limits) (bytes : List ℕ) (before : ℕ) → leading_crlf bytes ≡ before
     → read_head limits bytes ≡ step_by_front limits before (length (drop before bytes)) (front_of (take limits.head (drop before bytes)))
 unfolding read_head
 read_at limits bytes before e =
@@ -360,7 +360,7 @@ search_goes_on limits bytes more start seen two kept =
 
 -- ---- what is read, and that each head is
 
-whole_from_front : (room : ℕ) (bytes : List ℕ) (f : Front) (h : Head) → front_of bytes ≡ Some f → f.len ≡ length bytes
+pub whole_from_front : (room : ℕ) (bytes : List ℕ) (f : Front) (h : Head) → front_of bytes ≡ Some f → f.len ≡ length bytes
     → length f.lines ≤ room + 1 → head_of f.lines ≡ Some h → whole_head room bytes ≡ Some h
 unfolding whole_head
 whole_from_front room bytes f h front whole few e =

@@ -1,3 +1,4 @@
 pub mod RequestHead
 pub mod HeadLaws
 pub mod HeadSpans
+pub mod Refusals

@@ -66,14 +66,17 @@ fn copy_head(
     })
 }
 
-// The head whose bytes these are, up to and with its empty line and of at most 100 field lines, or None.
+// How many field lines a head may have.
+const MOST_FIELDS: usize = 100;
+
+// The head whose bytes these are, up to and with its empty line and of at most MOST_FIELDS field lines, or None.
 pub fn parse_head(alloc: Global, bytes: &[u8]) -> Result<Option<Head>, NoMemory>
     ensures exact { IfOk result (λ head. (front : Front) → front_of bytes.now ≡ Some front → front.len ≡ length bytes.now
         → length front.lines ≤ 101 → head ≡ head_of front.lines) }
     ensures memory { OnErr result ((front : Front) → front_of bytes.now ≡ Some front → front.len ≡ length bytes.now
         → IsSome (head_of front.lines)) }
 {
-    let mut spans = [EMPTY_HEADER_SPAN; 100];
+    let mut spans = [EMPTY_HEADER_SPAN; MOST_FIELDS];
     match parse_request(bytes, &mut spans) {
         Ok(Status::Complete(found)) => Ok(Some(copy_head(alloc, bytes, &spans, found)?)),
         Ok(Status::Partial) => Ok(None),

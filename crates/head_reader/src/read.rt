@@ -11,6 +11,9 @@ use head_lines::{Search, line_count};
 use host_base::{Cause, Limits, NoMemory};
 use std::alloc::Global;
 
+// The request line, 100 field lines and the empty line.
+const MOST_LINES: usize = 102;
+
 // How many bytes one leading CRLF takes.
 fn leading_len(buf: &[u8]) -> usize
     ensures value { result ≡ leading_crlf buf.now }
@@ -43,8 +46,7 @@ fn judge(alloc: Global, head: &[u8], used: usize, limits: &Limits) -> Result<Hea
     if target_len(head) as u64 > limits.target {
         return Ok(HeadStep::Bad(Cause::TargetTooLong));
     }
-    // The request line, the field lines and the empty line.
-    if line_count(head) > 102 {
+    if line_count(head) > MOST_LINES {
         return Ok(HeadStep::Bad(Cause::TooManyFields));
     }
     match parse_head(alloc, head)? {

@@ -64,7 +64,7 @@ const HEADS: [(&[u8], usize, Option<Cause>); 36] = [
 
 // A text with a part that is repeated: what stands before it, the part, how often, what follows, and
 // the answer as in the table above. The limits are the least that a site may have.
-const LONG_HEADS: [(&[u8], &[u8], usize, &[u8], usize, Option<Cause>); 14] = [
+const LONG_HEADS: [(&[u8], &[u8], usize, &[u8], usize, Option<Cause>); 20] = [
     (
         b"GET / HTTP/1.1\r\nA: ",
         b"a",
@@ -141,6 +141,40 @@ const LONG_HEADS: [(&[u8], &[u8], usize, &[u8], usize, Option<Cause>); 14] = [
         b"\r\n",
         422,
         Some(Cause::TooManyFields),
+    ),
+    (
+        b"GET /aaaaaaaaaaaaaaaaaaaaaaaaaaaaaaaaaaaaaaaaaaaaaaaaaaaaaaaaaaaaaaaa HTTP/1.1\r\n",
+        b"A:\r\n",
+        101,
+        b"\r\n",
+        486,
+        Some(Cause::TargetTooLong),
+    ),
+    (
+        b"GET /aaaaaaaaaaaaaaaaaaaaaaaaaaaaaaaaaaaaaaaaaaaaaaaaaaaaaaaaaaaaaaaa\r\n",
+        b"A:\r\n",
+        101,
+        b"\r\n",
+        477,
+        Some(Cause::TooManyFields),
+    ),
+    (b"GET /", b"a", 64, b"\r\n\r\n", 73, Some(Cause::BadHead)),
+    (
+        b"GET /",
+        b"a",
+        64,
+        b" \r\n\r\n",
+        74,
+        Some(Cause::TargetTooLong),
+    ),
+    (b" ", b"a", 65, b" \r\n\r\n", 71, Some(Cause::TargetTooLong)),
+    (
+        b"G",
+        b"a",
+        65,
+        b" / HTTP/3.0\r\n\r\n",
+        81,
+        Some(Cause::BadHead),
     ),
 ];
 

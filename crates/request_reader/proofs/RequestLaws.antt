@@ -69,14 +69,14 @@ begun_is_more bytes = (not_begun bytes, back)
     back (inr (inr is)) = ap is_begun is
 
 -- where nothing has begun, the head has not ended
-unbegun_more : (limits : Limits) (bytes : List ℕ) → 2 ≤ limits.head → (bytes ≡ []) ⊎ ((bytes ≡ 13 ∷ []) ⊎ (bytes ≡ 13 ∷ 10 ∷ []))
+pub unbegun_more : (limits : Limits) (bytes : List ℕ) → 2 ≤ limits.head → (bytes ≡ []) ⊎ ((bytes ≡ 13 ∷ []) ⊎ (bytes ≡ 13 ∷ 10 ∷ []))
     → read_head limits bytes ≡ Step.More
 unfolding front_of_parts
 unbegun_more limits bytes two (inl is) = ap (read_head limits) is ∙ (more_is_open limits []).1 (refl, omega arith)
 unbegun_more limits bytes two (inr (inl is)) = ap (read_head limits) is ∙ (more_is_open limits (13 ∷ [])).1 (refl, omega arith)
 unbegun_more limits bytes two (inr (inr is)) = ap (read_head limits) is ∙ (more_is_open limits (13 ∷ 10 ∷ [])).1 (refl, omega arith)
 
-begun_at : (limits : Limits) (bytes : List ℕ) → 2 ≤ limits.head → (read_head limits bytes ≡ Step.More → ⊥) → true ≡ is_begun bytes
+pub begun_at : (limits : Limits) (bytes : List ℕ) → 2 ≤ limits.head → (read_head limits bytes ≡ Step.More → ⊥) → true ≡ is_begun bytes
 begun_at limits bytes two other =
     elim (cases_Bool (is_begun bytes)) [
       | inl is ↦ sym is

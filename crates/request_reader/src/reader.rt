@@ -1,11 +1,12 @@
 // A reader of the requests of one connection.
-ghost use Rattle.std.specs.Prelude.{◌≡◌, ◌≤◌, ◌+◌, ◌++◌, ℕ, List, [], Some, None, length, take, drop, vec_len, min, true, IfSome, IfOk, OnOk, OnErr, IsTrue, is_some, option_map};
+ghost use Rattle.std.specs.Prelude.{◌≡◌, ◌≤◌, ◌+◌, ◌++◌, ℕ, Bool, true, List, [], Some, None, length, take, drop, vec_len, min, IfSome, IfOk, OnOk, OnErr, IsTrue, is_some, option_map};
 ghost use Rattle.request_reader.specs.Looks.{LookSays, early_opened, look_of, settled};
 ghost use Rattle.request_reader.specs.Opening.{emptied, kept_of, wanted_by, with_bytes};
 ghost use Rattle.request_reader.specs.Reader.{IsBehind, IsHeard, IsOpened, data_kept, unread};
 ghost use Rattle.request_reader.specs.declared.step.ReqStep.TheVariants as Answer;
 ghost use Rattle.request_reader.specs.declared.opened.Opened.{Opened};
-ghost use Rattle.request_reader.specs.Request.{early_of, is_begun, is_whole_head, read_request, step_of, with_body};
+ghost use Rattle.request_reader.specs.Request.{More, early_of, is_begun, is_length, is_whole_head, read_request, step_of, with_body};
+ghost use Rattle.host_base.specs.declared.request.Request.{Request};
 
 use crate::ReqStep;
 use crate::fault::Fault;
@@ -251,6 +252,10 @@ impl ReqReader {
             → IfOk result (λ step. step ≡ step_of taken (read_request self.old.limits bytes)) }
         ensures behind { (bytes : List ℕ) (taken : ℕ) → IsHeard self.old bytes taken
             → OnOk result (IsBehind self.old.limits bytes taken (read_request self.old.limits bytes) self.new) }
+        // Of a body of known length, `take_body` hands out what it has of it.
+        ensures next { (bytes : List ℕ) (taken : ℕ) (request : Request) (due : Bool) → IsHeard self.old bytes taken
+            → read_request self.old.limits bytes ≡ More (Some request) due → is_length request.framing ≡ true
+            → OnOk result (kept_of self.new.opened ≡ drop taken request.body) }
         ensures err { OnErr result (self.new ≡ self.old) }
         // Nothing but a whole head and its body take memory.
         ensures memory { (bytes : List ℕ) (taken : ℕ) → IsHeard self.old bytes taken
@@ -276,6 +281,7 @@ impl ReqReader {
     fn copy_early(&self) -> Result<Option<Request>, NoMemory>
         ensures exact { IfOk result (λ request. request ≡ early_opened self.now.opened) }
         ensures next { IfOk result (λ request. IfSome request (λ r. kept_of self.now.opened ≡ r.body)) }
+        ensures memory { OnErr result (is_some self.now.opened ≡ true) }
     {
         match &self.opened {
             Some(opened) if is_length(opened.request.framing) => {
@@ -295,6 +301,8 @@ impl ReqReader {
             → (self.new.limits ≡ self.old.limits) × IsHeard self.new bytes taken }
         // `take_body` hands out its body next.
         ensures next { IfOk result (λ request. IfSome request (λ r. kept_of self.new.opened ≡ r.body)) }
+        ensures memory { (bytes : List ℕ) (taken : ℕ) → IsHeard self.old bytes taken
+            → OnErr result (IsTrue (is_whole_head self.old.limits bytes)) }
     {
         if self.fault.is_some() {
             return Ok(None);

@@ -97,6 +97,34 @@ fn requests_one_after_another(rt: HostRuntime) {
     }
 }
 
+const NEXT: &[u8] = b"\r\nGET /next HTTP/1.0\r\n\r\n";
+
+// Whether another request behind the text is given too.
+fn is_followed<'a>(
+    alloc: Global,
+    text: &[u8],
+    due: &[(&'a [u8], &'a [u8])],
+) -> Result<bool, NoMemory> {
+    let mut all = Vec::from_slice(alloc, text)?;
+    all.extend_from_slice(NEXT)?;
+    let mut given = Vec::from_slice(alloc, due)?;
+    given.push((b"/next".as_slice(), b"".as_slice()))?;
+    is_answered_however_cut(alloc, &all, &given, None, Some((false, 0)))
+}
+
+#[test]
+fn another_request_behind_each(rt: HostRuntime) {
+    for (text, due, begun, rest) in REQUESTS.iter() {
+        if !*begun && *rest == 0 {
+            assert!(&rt;
+                is_followed(rt.alloc(), text, due) == Ok(true),
+                "{}",
+                text.len()
+            );
+        }
+    }
+}
+
 #[test]
 fn faults_stay_and_keep_their_bytes(rt: HostRuntime) {
     for (text, cause, bare) in FAULTS.iter() {

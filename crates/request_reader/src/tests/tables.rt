@@ -3,7 +3,7 @@ use host_base::Cause;
 
 // Bytes, the paths and bodies of the whole requests in them, whether another one has begun, and how many
 // bytes are left for it.
-pub const REQUESTS: [(&[u8], &[(&[u8], &[u8])], bool, usize); 29] = [
+pub const REQUESTS: [(&[u8], &[(&[u8], &[u8])], bool, usize); 36] = [
     (b"", &[], false, 0),
     (b"\r", &[], false, 1),
     (b"\r\n", &[], false, 2),
@@ -102,7 +102,50 @@ pub const REQUESTS: [(&[u8], &[(&[u8], &[u8])], bool, usize); 29] = [
         false,
         0,
     ),
+    (
+        b"POST / HTTP/1.0\r\nContent-Length: \t3 \r\n\r\nabc",
+        &[(b"/", b"abc")],
+        false,
+        0,
+    ),
+    (
+        b"POST / HTTP/1.0\nContent-Length: 00000000000000000003\n\nabc",
+        &[(b"/", b"abc")],
+        false,
+        0,
+    ),
+    // Other names than Transfer-Encoding, which say nothing of the body.
+    (
+        b"POST / HTTP/1.1\r\nHost: a\r\nTransfer_Encoding: chunked\r\nContent-Length: 5\r\n\r\n0\r\n\r\n",
+        &[(b"/", b"0\r\n\r\n")],
+        false,
+        0,
+    ),
+    (
+        b"POST / HTTP/1.1\r\nHost: a\r\nContent-Length: 5\r\nX-Transfer-Encoding: chunked\r\nTE: chunked\r\n\r\n0\r\n\r\n",
+        &[(b"/", b"0\r\n\r\n")],
+        false,
+        0,
+    ),
     // Bodies in chunks.
+    (
+        b"POST / HTTP/1.1\r\nHost: a\r\nTransfer-Encoding:\tchunked \t\r\n\r\n1\r\na\r\n0\r\n\r\n",
+        &[(b"/", b"a")],
+        false,
+        0,
+    ),
+    (
+        b"POST / HTTP/1.1\r\nHost: a\r\ntRANSFER-eNCODING: CHUNKED\r\n\r\n1F;A=b\r\n0123456789012345678901234567890\r\n0\r\nA: b\r\n\r\n",
+        &[(b"/", b"0123456789012345678901234567890")],
+        false,
+        0,
+    ),
+    (
+        b"POST /a HTTP/1.1\r\nHost: a\r\nTransfer-Encoding: chunked\r\n\r\n1c\r\nGET /x HTTP/1.1\r\nHost: a\r\n\r\n\r\n0\r\n\r\n",
+        &[(b"/a", b"GET /x HTTP/1.1\r\nHost: a\r\n\r\n")],
+        false,
+        0,
+    ),
     (
         b"POST / HTTP/1.1\r\nHost: a\r\nTransfer-Encoding: chunked\r\n\r\n5\r\nabcde\r\n0\r\n\r\n",
         &[(b"/", b"abcde")],
@@ -149,7 +192,7 @@ pub const REQUESTS: [(&[u8], &[(&[u8], &[u8])], bool, usize); 29] = [
 ];
 
 // Bytes that are no request that is served, the cause, and whether a reply has no body.
-pub const FAULTS: [(&[u8], Cause, bool); 36] = [
+pub const FAULTS: [(&[u8], Cause, bool); 41] = [
     (b"\r\n\r\n", Cause::BadHead, false),
     (b"HEAD / HTTP/3.0\r\n\r\n", Cause::BadHead, false),
     (b"GET / HTTP/1.1\r\n\r\n", Cause::BadHost, false),
@@ -303,6 +346,31 @@ pub const FAULTS: [(&[u8], Cause, bool); 36] = [
         false,
     ),
     (
+        b"POST / HTTP/1.1\r\nHost: a\r\nContent-Length: 3,3\r\n\r\n",
+        Cause::BadFraming,
+        false,
+    ),
+    (
+        b"POST / HTTP/1.1\r\nHost: a\r\nContent-Length: 3\r\nContent-Length:\r\n\r\n",
+        Cause::BadFraming,
+        false,
+    ),
+    (
+        b"POST / HTTP/1.1\r\nHost: a\r\nContent-Length: 0x3\r\n\r\n",
+        Cause::BadFraming,
+        false,
+    ),
+    (
+        b"POST / HTTP/1.1\r\nHost: a\r\nContent-Length: 99999999999999999999\r\n\r\n",
+        Cause::BodyTooLong,
+        false,
+    ),
+    (
+        b"POST / HTTP/1.1\r\nHost: a\r\nContent-Length: 18446744073709551619\r\n\r\n",
+        Cause::BodyTooLong,
+        false,
+    ),
+    (
         b"POST / HTTP/1.1\r\nHost: a\r\nContent-Length: 18446744073709551616\r\n\r\n",
         Cause::BodyTooLong,
         false,
@@ -312,7 +380,7 @@ pub const FAULTS: [(&[u8], Cause, bool); 36] = [
 // Bytes in which one reader could find a body by its length and another one by its chunks, or a field
 // line that one of them overlooks (RFC 9112 5.1, 5.2, 6.1, 6.3 and 11.2): the cause by which they are
 // refused.
-pub const SMUGGLED: [(&[u8], Cause); 17] = [
+pub const SMUGGLED: [(&[u8], Cause); 23] = [
     (
         b"POST / HTTP/1.1\r\nHost: a\r\nContent-Length: 6\r\nTransfer-Encoding: chunked\r\n\r\n0\r\n\r\nG",
         Cause::BadFraming,
@@ -343,6 +411,30 @@ pub const SMUGGLED: [(&[u8], Cause); 17] = [
     ),
     (
         b"POST / HTTP/1.1\r\nHost: a\r\nTransfer-Encoding:\r\n\r\n0\r\n\r\n",
+        Cause::BadFraming,
+    ),
+    (
+        b"POST / HTTP/1.1\r\nHost: a\r\nTransfer-Encoding: gzip\r\n\r\n0\r\n\r\n",
+        Cause::CodingUnknown,
+    ),
+    (
+        b"POST / HTTP/1.1\r\nHost: a\r\nTransfer-Encoding: chunked, chunked\r\n\r\n0\r\n\r\n",
+        Cause::BadFraming,
+    ),
+    (
+        b"POST / HTTP/1.1\r\nHost: a\r\nTransfer-Encoding: chunked, identity\r\n\r\n0\r\n\r\n",
+        Cause::CodingUnknown,
+    ),
+    (
+        b"POST / HTTP/1.1\r\nHost: a\r\nTransfer-Encoding: chunked;a=b\r\n\r\n0\r\n\r\n",
+        Cause::CodingUnknown,
+    ),
+    (
+        b"POST / HTTP/1.1\r\nHost: a\r\nContent-Length: 5\r\nTransfer-Encoding: gzip\r\n\r\n0\r\n\r\n",
+        Cause::BadFraming,
+    ),
+    (
+        b"POST / HTTP/1.0\r\nContent-Length: 5\r\nTransfer-Encoding: chunked\r\n\r\n0\r\n\r\n",
         Cause::BadFraming,
     ),
     (

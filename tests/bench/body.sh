@@ -1,0 +1,191 @@
+#!/usr/bin/env bash
+# Prints the time a byte of a request's body of 16 MiB and of 1 MiB, by length and in chunks of 1 KiB, in
+# pieces of 65,536 bytes and of 1 byte: as a multiple of copying the same pieces onto one list in the same
+# run, and in nanoseconds. A body by length is measured twice, taken out as it comes and gathered for its
+# request; one in chunks is gathered. The aims: 4 in large pieces, 40 in single bytes, and the same at 1 MiB
+# as at 16. The program that measures is built by `rt` in a folder of its own, over copies of the crates.
+set -eu
+top=$(cd "$(dirname "$0")/../.." && pwd)
+command -v rt >/dev/null || { echo 'body.sh: skipped, there is no rt'; exit 0; }
+folder=$(mktemp -d)
+trap 'rm -rf "$folder"' EXIT
+crates='host_base head_lines head_reader script_map body_framing request_reader'
+mkdir -p "$folder/crates/body_speed/src"
+for crate in $crates; do
+    grep "^$crate:" "$top/crates.txt"
+    mkdir "$folder/crates/$crate"
+    (cd "$top/crates/$crate" && tar cf - --exclude=./out --exclude=./must-fail .) | (cd "$folder/crates/$crate" && tar xf -)
+done >"$folder/crates.txt"
+echo 'body_speed: host_base request_reader' >>"$folder/crates.txt"
+cat >"$folder/crates/body_speed/src/main.rt" <<'END_OF_PROGRAM'
+// Bodies of requests by length and in chunks, in large and in small pieces, beside copies of them.
+#![tactic(auto)]
+
+use host_base::{Limits, NoMemory};
+use request_reader::{ReqReader, ReqStep};
+use std::alloc::Global;
+use std::io;
+use std::time::Instant;
+
+const MIB: usize = 1_048_576;
+const CHUNK: usize = 1024;
+
+fn limits() -> Limits {
+    Limits {
+        body: 33_554_432,
+        ..Limits::default()
+    }
+}
+
+fn fill(body: &mut Vec<u8>, count: usize) -> Result<(), NoMemory> {
+    for _ in 0..count {
+        body.push(b'a')?;
+    }
+    Ok(())
+}
+
+// Content-Length of 1 or 16 MiB, and so many bytes.
+fn by_length(alloc: Global, mib: usize) -> Result<Vec<u8>, NoMemory> {
+    let head: &[u8] = if mib == 16 {
+        b"POST / HTTP/1.0\r\nContent-Length: 16777216\r\n\r\n"
+    } else {
+        b"POST / HTTP/1.0\r\nContent-Length: 1048576\r\n\r\n"
+    };
+    let mut text = Vec::from_slice(alloc, head)?;
+    for _ in 0..mib {
+        fill(&mut text, MIB)?;
+    }
+    Ok(text)
+}
+
+// The same bytes in chunks of 1 KiB.
+fn in_chunks(alloc: Global, mib: usize) -> Result<Vec<u8>, NoMemory> {
+    let mut text = Vec::from_slice(
+        alloc,
+        b"POST / HTTP/1.1\r\nHost: a\r\nTransfer-Encoding: chunked\r\n\r\n",
+    )?;
+    for _ in 0..mib {
+        for _ in 0..MIB / CHUNK {
+            text.extend_from_slice(b"400\r\n")?;
+            fill(&mut text, CHUNK)?;
+            text.extend_from_slice(b"\r\n")?;
+        }
+    }
+    text.extend_from_slice(b"0\r\n\r\n")?;
+    Ok(text)
+}
+
+// How many bytes the body has that is taken out piece by piece.
+fn streamed(alloc: Global, text: &[u8], size: usize) -> Result<usize, NoMemory> {
+    let mut reader = ReqReader::new(alloc, &limits());
+    let (head, body) = text.split_at(text.len() % CHUNK);
+    reader.feed(head)?;
+    let mut count: usize = 0;
+    if reader.early()?.is_some() {
+        for piece in body.chunks(size.max(1)) {
+            reader.feed(piece)?;
+            count = count.wrapping_add(reader.take_body().len());
+        }
+    }
+    if let ReqStep::Whole(request) = reader.step()? {
+        count = count.wrapping_add(request.body.len());
+    }
+    Ok(count)
+}
+
+// How many bytes the body has that is gathered.
+fn gathered(alloc: Global, text: &[u8], size: usize) -> Result<usize, NoMemory> {
+    let mut reader = ReqReader::new(alloc, &limits());
+    for piece in text.chunks(size.max(1)) {
+        reader.feed(piece)?;
+        match reader.step()? {
+            ReqStep::Whole(request) => return Ok(request.body.len()),
+            ReqStep::More { .. } => (),
+            ReqStep::Bad { .. } => return Ok(0),
+        }
+    }
+    Ok(0)
+}
+
+#[inline(never)]
+fn add(copy: &mut Vec<u8>, piece: &[u8]) -> Result<(), NoMemory> {
+    copy.extend_from_slice(piece).map_err(|_| NoMemory)
+}
+
+// How many bytes a copy of them has, piece by piece.
+fn copied(alloc: Global, text: &[u8], size: usize) -> Result<usize, NoMemory> {
+    let mut copy = Vec::new(alloc);
+    for piece in text.chunks(size.max(1)) {
+        add(&mut copy, piece)?;
+    }
+    Ok(copy.len())
+}
+
+fn report(
+    rt: &(impl Print + std::rt::Clock),
+    name: &str,
+    mib: usize,
+    size: usize,
+    begun: Instant,
+    count: Result<usize, NoMemory>,
+) -> io::Result<()> {
+    let nanoseconds = begun.elapsed(rt)?.as_nanos();
+    println!(rt; "{name} {mib} {size} {nanoseconds} {}", count.unwrap_or(0))
+}
+
+fn turn(
+    rt: &(impl Print + AllocGlobal + std::rt::Clock),
+    mib: usize,
+    size: usize,
+    length: &[u8],
+    chunks: &[u8],
+) -> io::Result<()> {
+    let begun = Instant::now(rt)?;
+    let count = copied(rt.alloc(), length, size);
+    report(rt, "copy", mib, size, begun, count)?;
+    let begun = Instant::now(rt)?;
+    let count = streamed(rt.alloc(), length, size);
+    report(rt, "streamed", mib, size, begun, count)?;
+    let begun = Instant::now(rt)?;
+    let count = gathered(rt.alloc(), length, size);
+    report(rt, "gathered", mib, size, begun, count)?;
+    let begun = Instant::now(rt)?;
+    let count = gathered(rt.alloc(), chunks, size);
+    report(rt, "chunks", mib, size, begun, count)
+}
+
+fn main(rt: HostRuntime) -> io::Result<()> {
+    for mib in [1, 16] {
+        let (Ok(length), Ok(chunks)) = (by_length(rt.alloc(), mib), in_chunks(rt.alloc(), mib)) else {
+            return println!(rt; "no memory");
+        };
+        for size in [65_536, 1] {
+            for _ in 0..5 {
+                turn(&rt, mib, size, &length, &chunks)?;
+            }
+        }
+    }
+    Ok(())
+}
+END_OF_PROGRAM
+(cd "$folder/crates/body_speed" && rt run) >"$folder/times" 2>"$folder/log" || { tail -n 30 "$folder/log"; exit 1; }
+# Each is run five times, and the least counts.
+awk '
+    $5 != $2 * 1048576 && ($1 != "copy" || $5 < $2 * 1048576) { print "body.sh: " $0; bad = 1; exit 1 }
+    { at = $1 " " $2 " " $3 }
+    !(at in least) || $4 < least[at] { least[at] = $4 }
+    function row(text, name, size,    long, short) {
+        long = least[name " 16 " size]
+        short = least[name " 1 " size]
+        printf "%s, in pieces of %d: %.2f times copying them (aim: %d), %.2f ns a byte; at 1 MiB %.2f times, %.2f ns\n", text, size,
+            long / least["copy 16 " size], size == 1 ? 40 : 4, long / 16777216, short / least["copy 1 " size], short / 1048576
+    }
+    END {
+        if (bad) exit 1
+        for (turn = 0; turn < 2; turn++) {
+            size = turn ? 1 : 65536
+            row("body by length, taken out", "streamed", size)
+            row("body by length, gathered", "gathered", size)
+            row("body in chunks of 1 KiB", "chunks", size)
+        }
+    }' "$folder/times"
