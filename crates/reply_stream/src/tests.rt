@@ -1,10 +1,11 @@
-// What streams write: each output whole, in single bytes and cut at each place, with a tick at each place.
+// What streams write. Each row is told as it stands; `cuts` tells outputs cut at each place with ticks.
 ghost use Rattle.reply_writer.specs.WholeRules.{IsStamp};
 
 use crate::{Asked, Last, Stream};
 use host_base::{Bytes, Cause, NoMemory, ScriptKind, Version};
 use std::alloc::Global;
 
+mod cuts;
 mod long;
 
 // What is told, and what is then written.
@@ -429,176 +430,6 @@ fn rows(rt: HostRuntime) -> Result<(), NoMemory> {
     for row in ROWS.iter() {
         assert!(&rt; is_answered(rt.alloc(), row)?, "row {number}");
         number = number.saturating_add(1);
-    }
-    Ok(())
-}
-
-// ---- cut at each place, with a tick there
-
-// What is asked, the output, after how many bytes its reply can begin and where its body begins; its whole reply,
-// and the head of the one that begins before the end, with whether it is in chunks.
-type CutRow = (
-    Asked,
-    &'static str,
-    usize,
-    usize,
-    &'static str,
-    &'static str,
-    bool,
-);
-
-const CUTS: [CutRow; 4] = [
-    (
-        GET,
-        "Content-Type: text/plain\n\nhi\n",
-        26,
-        26,
-        "HTTP/1.1 200 OK\r\nContent-Type: text/plain\r\nContent-Length: 3\r\n\r\nhi\n",
-        "HTTP/1.1 200 OK\r\nContent-Type: text/plain\r\nTransfer-Encoding: chunked\r\n\r\n",
-        true,
-    ),
-    (
-        OLD,
-        "Content-Type: text/plain\n\nhi\n",
-        26,
-        26,
-        "HTTP/1.1 200 OK\r\nContent-Type: text/plain\r\nContent-Length: 3\r\n\r\nhi\n",
-        "HTTP/1.1 200 OK\r\nContent-Type: text/plain\r\n\r\n",
-        false,
-    ),
-    (
-        RAW,
-        "HTTP/1.0 200 OK\r\n\r\nx",
-        1,
-        0,
-        "HTTP/1.0 200 OK\r\n\r\nx",
-        "",
-        false,
-    ),
-    // A redirect without a document never begins before the end.
-    (
-        GET,
-        "Location: http://x/\n\nhi\n",
-        99,
-        0,
-        "HTTP/1.1 302 Found\r\nLocation: http://x/\r\nContent-Length: 0\r\n\r\n",
-        "",
-        false,
-    ),
-];
-
-fn hear(
-    alloc: Global,
-    stream: &mut Stream,
-    written: &mut Vec<u8>,
-    piece: &[u8],
-) -> Result<(), NoMemory> {
-    let piece = Bytes::from_slice(alloc, piece)?;
-    let text = stream.hear(piece, false, None)?;
-    written.extend_from_slice(text.as_slice())?;
-    Ok(())
-}
-
-// Tells a part of the output, whole or in single bytes.
-fn hear_all(
-    alloc: Global,
-    stream: &mut Stream,
-    written: &mut Vec<u8>,
-    part: &[u8],
-    single: bool,
-) -> Result<(), NoMemory> {
-    if !single {
-        return hear(alloc, stream, written, part);
-    }
-    for byte in part {
-        hear(alloc, stream, written, &[*byte])?;
-    }
-    Ok(())
-}
-
-// Tells a front of the output, a tick and the rest, and joins what is written.
-fn written_of(
-    alloc: Global,
-    asked: Asked,
-    front: &[u8],
-    rest: &[u8],
-    single: bool,
-) -> Result<Vec<u8>, NoMemory> {
-    let mut stream = Stream::new(alloc, asked);
-    let mut written = Vec::new(alloc);
-    hear_all(alloc, &mut stream, &mut written, front, single)?;
-    let text = stream.tick(false, None)?;
-    written.extend_from_slice(text.as_slice())?;
-    hear_all(alloc, &mut stream, &mut written, rest, single)?;
-    if let Last::Written(text) = stream.end(false, None)? {
-        written.extend_from_slice(text.as_slice())?;
-    }
-    Ok(written)
-}
-
-// Adds a part of at most nine bytes as it is framed.
-fn push_part(text: &mut Vec<u8>, part: &[u8], chunked: bool) -> Result<(), NoMemory> {
-    if part.is_empty() {
-        return Ok(());
-    }
-    if !chunked {
-        text.extend_from_slice(part)?;
-        return Ok(());
-    }
-    if let Some(digit) = b"0123456789".get(part.len()) {
-        text.push(*digit)?;
-    }
-    text.extend_from_slice(b"\r\n")?;
-    text.extend_from_slice(part)?;
-    text.extend_from_slice(b"\r\n")?;
-    Ok(())
-}
-
-fn expected_of(
-    alloc: Global,
-    row: &CutRow,
-    front: &[u8],
-    rest: &[u8],
-    single: bool,
-) -> Result<Vec<u8>, NoMemory> {
-    if front.len() < row.2 {
-        return Ok(Vec::from_slice(alloc, row.4.as_bytes())?);
-    }
-    let mut text = Vec::from_slice(alloc, row.5.as_bytes())?;
-    push_part(&mut text, front.get(row.3..).unwrap_or(b""), row.6)?;
-    if single {
-        for byte in rest {
-            push_part(&mut text, &[*byte], row.6)?;
-        }
-    } else {
-        push_part(&mut text, rest, row.6)?;
-    }
-    if row.6 {
-        text.extend_from_slice(b"0\r\n\r\n")?;
-    }
-    Ok(text)
-}
-
-// Whether the output is written as its row says, wherever it is cut and the tick comes.
-fn is_written_however_cut(alloc: Global, row: &CutRow) -> Result<bool, NoMemory> {
-    let output = row.1.as_bytes();
-    for at in 0..output.len() + 1 {
-        for single in [false, true] {
-            let (front, rest) = (&output[..at], &output[at..]);
-            let written = written_of(alloc, row.0, front, rest, single)?;
-            let expected = expected_of(alloc, row, front, rest, single)?;
-            if written.as_slice() != expected.as_slice() {
-                return Ok(false);
-            }
-        }
-    }
-    Ok(true)
-}
-
-#[test]
-fn cuts_and_ticks(rt: HostRuntime) -> Result<(), NoMemory> {
-    for row in CUTS.iter() {
-        assert!(&rt; is_written_however_cut(rt.alloc(), row)?, "{}", row.4);
     }
     Ok(())
 }

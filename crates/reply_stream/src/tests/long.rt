@@ -1,5 +1,5 @@
 // Outputs about the size at which a reply begins without a tick, and a header that is about as long.
-use super::{Bad, Ended, GET, HEAD, Hop, OLD, RAW, Rest, hear_all, is_ended};
+use super::{Bad, Ended, GET, HEAD, Hop, OLD, RAW, Rest, is_ended};
 use crate::{Asked, Last, Stream};
 use host_base::{Bytes, Cause, NoMemory};
 use std::alloc::Global;
@@ -124,15 +124,42 @@ fn filled(alloc: Global, text: Filled) -> Result<Vec<u8>, NoMemory> {
     Ok(bytes)
 }
 
+fn hear(
+    alloc: Global,
+    stream: &mut Stream,
+    written: &mut Vec<u8>,
+    piece: &[u8],
+) -> Result<(), NoMemory> {
+    let piece = Bytes::from_slice(alloc, piece)?;
+    let text = stream.hear(piece, false, None)?;
+    written.extend_from_slice(text.as_slice())?;
+    Ok(())
+}
+
+// Tells an output in a piece of `first` bytes and then in pieces of `size` bytes, and gives what is written.
+fn hear_all(
+    alloc: Global,
+    stream: &mut Stream,
+    output: &[u8],
+    cut: (usize, usize),
+) -> Result<Vec<u8>, NoMemory> {
+    let mut written = Vec::new(alloc);
+    let (first, rest) = output.split_at(cut.0.min(output.len()));
+    hear(alloc, stream, &mut written, first)?;
+    for piece in rest.chunks(cut.1.max(1)) {
+        hear(alloc, stream, &mut written, piece)?;
+    }
+    Ok(written)
+}
+
 fn is_long_row(
     alloc: Global,
     row: &(Asked, Filled, Filled, Filled),
-    single: bool,
+    output: &[u8],
+    cut: (usize, usize),
 ) -> Result<bool, NoMemory> {
     let mut stream = Stream::new(alloc, row.0);
-    let mut written = Vec::new(alloc);
-    let output = filled(alloc, row.1)?;
-    hear_all(alloc, &mut stream, &mut written, output.as_slice(), single)?;
+    let written = hear_all(alloc, &mut stream, output, cut)?;
     let before = filled(alloc, row.2)?;
     let begun = stream.has_begun();
     let rest = filled(alloc, row.3)?;
@@ -146,22 +173,48 @@ fn is_long_row(
     }
 }
 
-fn is_unwritten(alloc: Global, row: &(Filled, Ended), single: bool) -> Result<bool, NoMemory> {
+// Whether it is written so in single bytes, and cut in two at every 97th place and at the last ones.
+fn is_long_row_however_cut(
+    alloc: Global,
+    row: &(Asked, Filled, Filled, Filled),
+) -> Result<bool, NoMemory> {
+    let output = filled(alloc, row.1)?;
+    let len = output.len();
+    for count in 0..len / 97 + 1 {
+        let cut = (count.saturating_mul(97), len);
+        if !is_long_row(alloc, row, output.as_slice(), cut)? {
+            return Ok(false);
+        }
+    }
+    for before in 0..4 {
+        let cut = (len.saturating_sub(before), 1);
+        if !is_long_row(alloc, row, output.as_slice(), cut)? {
+            return Ok(false);
+        }
+    }
+    is_long_row(alloc, row, output.as_slice(), (0, 1))
+}
+
+fn is_unwritten(
+    alloc: Global,
+    row: &(Filled, Ended),
+    cut: (usize, usize),
+) -> Result<bool, NoMemory> {
     let mut stream = Stream::new(alloc, GET);
-    let mut written = Vec::new(alloc);
     let output = filled(alloc, row.0)?;
-    hear_all(alloc, &mut stream, &mut written, output.as_slice(), single)?;
+    let written = hear_all(alloc, &mut stream, output.as_slice(), cut)?;
     Ok(written.is_empty() && !stream.has_begun() && is_ended(&stream.end(false, None)?, row.1))
 }
 
 #[test]
 fn long_outputs(rt: HostRuntime) -> Result<(), NoMemory> {
-    for single in [false, true] {
-        for row in LONG.iter() {
-            assert!(&rt; is_long_row(rt.alloc(), row, single)?, "{} {}", row.1.0, row.1.1);
-        }
-        for row in UNWRITTEN.iter() {
-            assert!(&rt; is_unwritten(rt.alloc(), row, single)?, "{} {}", row.0.0, row.0.1);
+    for row in LONG.iter() {
+        let right = is_long_row_however_cut(rt.alloc(), row)?;
+        assert!(&rt; right, "{} {}", row.1.0, row.1.1);
+    }
+    for row in UNWRITTEN.iter() {
+        for cut in [(0, 1), (0, 8192), (0, 10_000), (8191, 1)] {
+            assert!(&rt; is_unwritten(rt.alloc(), row, cut)?, "{} {}", row.0.0, row.0.1);
         }
     }
     Ok(())
