@@ -1,14 +1,16 @@
 -- When each act of a connection may stand, and in which order the acts of a step come.
-use Rattle.std.specs.Prelude.{ℕ, Bool, true, not, ◌&&◌, nat_le, if◌then◌else◌, List, [], ◌∷◌}
+use Rattle.std.specs.Prelude.{ℕ, Bool, true, false, not, ◌&&◌, ◌||◌, nat_le, if◌then◌else◌, List, [], ◌∷◌}
 use Rattle.host_base.specs.declared.site.Site.{Site}
 use Rattle.host_trace.specs.declared.items.Act.{Act}
 use Rattle.host_trace.specs.declared.items.Act.TheVariants.{WantClient, Write, Shut, Start, Feed, EndInput, WantChild, Kill, Release, Upgrade, Says, CloseWs}
 use Rattle.host_trace.specs.declared.items.Item.{Item}
 use Rattle.host_trace.specs.declared.items.Item.TheVariants.{Out}
+use Rattle.host_trace.specs.Account.{has_unsettled}
 use Rattle.host_trace.specs.Projections.{client_wanted, upgraded}
 use Rattle.host_trace.specs.Trace.{Step}
 use Rattle.trace_child.specs.Words.{is_filled}
 use Rattle.trace_child.specs.ChildForm.{may_be_given}
+use Rattle.trace_model.specs.Answer.{Stage, refused, stage}
 use Rattle.trace_model.specs.Demands.{is_live}
 use Rattle.trace_model.specs.Exchange.{Exchange, pushed, all_of}
 use Rattle.trace_model.specs.Exchanges.{current, next_of, has_ended}
@@ -49,12 +51,26 @@ rank (Shut c why) = 9
 rank (Start k c j hop launch) = 10
 rank (WantClient c) = 11
 
--- the acts of one exchange come in the order of their places; where it ends within a step, those of the next follow it
+-- a local redirect leads to a target that is refused, or there was one too many
+abbrev pub is_refused : Stage → Bool
+is_refused (refused cause) = true
+is_refused _ = false
+
+-- the act settles the last child for which such a refusal waited
+abbrev pub ends_the_wait : Site → ℕ → Exchange → Act → Bool
+ends_the_wait site c e act =
+    has_unsettled e.items c && not (has_unsettled (pushed e (Out act)).items c) && is_refused (stage site c e)
+
+abbrev pub begins_anew : Site → ℕ → Exchange → Act → Bool
+begins_anew site c e act = has_ended site c (pushed e (Out act)) || ends_the_wait site c e act
+
+-- The acts of one exchange come in the order of their places. Where it ends within a step, those of the next follow it;
+-- and where a refusal waited for a child, it follows the act that settles it.
 abbrev pub is_ordered : Site → ℕ → Exchange → ℕ → List Act → Bool
 is_ordered site c e least [] = true
 is_ordered site c e least (act ∷ acts) =
     nat_le least (rank act)
-    && is_ordered site c (next_of site c e (Out act)) (if has_ended site c (pushed e (Out act)) then 0 else rank act) acts
+    && is_ordered site c (next_of site c e (Out act)) (if begins_anew site c e act then 0 else rank act) acts
 
 abbrev pub order : Site → ℕ → Step → Bool
 order site c s = is_ordered site c (current site c (heard_of s)) 0 s.acts

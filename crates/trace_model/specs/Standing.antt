@@ -87,12 +87,17 @@ may_be_final site c e (byte ∷ bytes) = may_follow site c e (byte ∷ bytes) (a
 abbrev pub may_stand : Site → ℕ → Exchange → Bool
 may_stand site c e = starts_with nat_eq (written c e) (continue_part site c e) && may_be_final site c e (final site c e)
 
--- Where memory was wanting: no 100 Continue though it was due; or what may stand; or, of a reply that had begun, what
--- stood before its end came. So it is a front of what stands elsewhere.
+-- the output has ended, and these bytes are its reply cut off
+abbrev pub is_left_unfinished : Site → ℕ → Exchange → List ℕ → Stage → Bool
+is_left_unfinished site c e bytes (answered leg output) = is_cut_of site c e bytes (begun_of e (answered leg output))
+is_left_unfinished site c e bytes _ = false
+
+-- Where memory was wanting: no 100 Continue though it was due; or what may stand; or, of a reply that had begun and whose
+-- output has ended, what stood before its end. So it is a front of what stands elsewhere.
 abbrev pub may_be_left : Site → ℕ → Exchange → List ℕ → Bool
 may_be_left site c e [] = true
 may_be_left site c e (byte ∷ bytes) =
-    may_follow site c e (byte ∷ bytes) (answer site c e) || is_cut site c e (byte ∷ bytes)
+    may_follow site c e (byte ∷ bytes) (answer site c e) || is_left_unfinished site c e (byte ∷ bytes) (stage site c e)
 
 abbrev pub is_nothing : List ℕ → Bool
 is_nothing [] = true

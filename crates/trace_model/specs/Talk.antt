@@ -1,13 +1,14 @@
 -- A WebSocket: what is said and fed, and what ends it.
-use Rattle.std.specs.Prelude.{ℕ, Bool, not, ◌||◌, ◌==◌, nat_lt, if◌then◌else◌, List, [], ◌∷◌, ◌++◌, length, filter, Option, Some, None, option_and_then}
+use Rattle.std.specs.Prelude.{ℕ, Bool, not, ◌||◌, ◌==◌, nat_lt, if◌then◌else◌, List, [], ◌∷◌, ◌++◌, length, map, filter, Option, Some, None, option_and_then}
 use Rattle.std.specs.List.{flat_map}
-use Rattle.host_trace.specs.declared.items.Act.TheVariants.{CloseWs}
+use Rattle.host_trace.specs.declared.items.Act.TheVariants.{CloseWs, Feed}
 use Rattle.host_trace.specs.declared.items.Item.{Item}
 use Rattle.host_trace.specs.declared.items.Item.TheVariants.{Out}
 use Rattle.host_trace.specs.Kinds.{is_shut, is_input_end, is_kill, is_exited, is_ws_closed, is_ws_binary, is_ws_text, is_child_eof, is_child_bytes, is_child_broken, is_start_failed, is_start_full}
 use Rattle.host_trace.specs.Projections.{child_out, heard, output_eof}
 use Rattle.host_trace.specs.First.{first_front, last_of}
-use Rattle.line_messages.specs.Lines.{lines_within, last_within, input}
+use Rattle.head_lines.specs.Lines.{with_lf}
+use Rattle.line_messages.specs.Lines.{lines_within, last_within}
 use Rattle.trace_child.specs.Words.{until}
 use Rattle.trace_child.specs.Run.{Run}
 use Rattle.trace_child.specs.Decided.{decides_run}
@@ -30,9 +31,17 @@ ends_input k x = is_input_end k x || is_kill k x || is_exited k x
 abbrev pub is_short : ℕ → List ℕ → Bool
 is_short limit text = not (nat_lt limit (length text))
 
--- what is fed: each text that the client sent before that, but one that is too long, as a line
-abbrev pub input_due : Run → List Item → List ℕ
-input_due run items = input (filter (is_short run.limits.ws_text) (heard (until (ends_input run.child) items) run.conn))
+-- what is fed: each text that the client sent before that, but one that is too long, as a line of its own
+abbrev pub input_due : Run → List Item → List (List ℕ)
+input_due run items = map with_lf (filter (is_short run.limits.ws_text) (heard (until (ends_input run.child) items) run.conn))
+
+-- the pieces that k was fed
+abbrev pub piece_fed : ℕ → Item → List (List ℕ)
+piece_fed k (Out (Feed d bytes)) = if k == d then bytes ∷ [] else []
+piece_fed k _ = []
+
+abbrev pub pieces_fed : List Item → ℕ → List (List ℕ)
+pieces_fed items k = flat_map (piece_fed k) items
 
 -- ---- its end
 

@@ -5,7 +5,7 @@ use Rattle.host_base.specs.declared.site.Site.{Site}
 use Rattle.host_trace.specs.declared.items.Act.{Act}
 use Rattle.host_trace.specs.declared.items.Act.TheVariants.{Upgrade}
 use Rattle.host_trace.specs.declared.items.Item.{Item}
-use Rattle.host_trace.specs.Projections.{child_in, said, shut_for_memory, upgraded}
+use Rattle.host_trace.specs.Projections.{said, shut_for_memory, upgraded}
 use Rattle.host_trace.specs.Decider.{is_websocket}
 use Rattle.trace_child.specs.Words.{implies}
 use Rattle.trace_child.specs.Run.{Run}
@@ -15,7 +15,7 @@ use Rattle.trace_model.specs.Answer.{stage, legs}
 use Rattle.trace_model.specs.Demands.{is_welcomed}
 use Rattle.trace_model.specs.Exchanges.{left_over}
 use Rattle.trace_model.specs.Sameness.{are_same, begins_list}
-use Rattle.trace_model.specs.Talk.{texts_due, input_due, code_due, codes_sent}
+use Rattle.trace_model.specs.Talk.{texts_due, input_due, pieces_fed, code_due, codes_sent}
 
 -- an Upgrade follows the accept text, and its rest is what the client sent after the handshake
 abbrev pub is_right_upgrade : Site → ℕ → Exchange → Act → Bool
@@ -26,18 +26,18 @@ is_right_upgrade site c e _ = true
 abbrev pub upgrades : Site → ℕ → Exchange → Bool
 upgrades site c e = implies (is_welcomed site c e (stage site c e) && not (shut_for_memory (all_of e) c)) (upgraded e.items c)
 
--- the texts said, the input and the code of the close frame are those that the talk names
+-- the texts said, the input, line by line, and the code of the close frame are those that the talk names
 abbrev pub is_talked : Run → List Item → Bool
 is_talked run items =
     are_same bytes_eq (said items run.conn) (texts_due run items)
-    && bytes_eq (child_in items run.child) (input_due run items)
+    && are_same bytes_eq (pieces_fed items run.child) (input_due run items)
     && bytes_eq (codes_sent items run.conn) (code_due run items)
 
 -- .. or, where memory was wanting, a front of these
 abbrev pub is_talked_in_part : Run → List Item → Bool
 is_talked_in_part run items =
     begins_list bytes_eq (said items run.conn) (texts_due run items)
-    && starts_with nat_eq (input_due run items) (child_in items run.child)
+    && begins_list bytes_eq (pieces_fed items run.child) (input_due run items)
     && starts_with nat_eq (code_due run items) (codes_sent items run.conn)
 
 abbrev pub talks_by : Run → List Item → Bool → Bool

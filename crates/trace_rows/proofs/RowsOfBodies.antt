@@ -165,3 +165,21 @@ chunk_that_is_none_is_good = refl
 chunk_that_is_none_has : length (exchanges site 0 chunk_that_is_none) ≡ 2
 unfolding on_literals
 chunk_that_is_none_has = refl
+
+-- a program that exits before its input was ended redirects to a target that is refused: its input is ended first
+abbrev pub refused_after_the_exit : List Item
+refused_after_the_exit =
+    In (Accepted peer) ∷ Out (WantClient 0)
+    ∷ In (ClientBytes 0 (codes "POST /f HTTP/1.1\r\nHost: a\r\nContent-Length: 3\r\n\r\n")) ∷ Out (Start 0 0 0 0 (launch_with_body (codes "/q") (codes "POST") (codes "/f"))) ∷ Out (WantClient 0)
+    ∷ In (Started 0) ∷ Out (WantChild 0)
+    ∷ In (Exited 0)
+    ∷ In (ChildBytes 0 (codes "Location: /x\n\n")) ∷ Out (WantChild 0)
+    ∷ In (ChildEof 0) ∷ Out (EndInput 0) ∷ Out (Write 0 (codes "HTTP/1.1 404 Not Found\r\nContent-Type: text/plain\r\nContent-Length: 24\r\nConnection: close\r\n\r\nno script for this path\n")) ∷ Out (Shut 0 Done) ∷ []
+
+refused_after_the_exit_is_good : broken_by site refused_after_the_exit ≡ []
+unfolding on_literals
+refused_after_the_exit_is_good = refl
+
+refused_after_the_exit_has : length (exchanges site 0 refused_after_the_exit) ≡ 2
+unfolding on_literals
+refused_after_the_exit_has = refl

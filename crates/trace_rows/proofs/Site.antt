@@ -35,6 +35,10 @@ site = record {
 abbrev pub site_of_two_redirects : Site
 site_of_two_redirects = record site { limits = record small_limits { redirects = 2 } }
 
+-- an output may have 30 bytes
+abbrev pub site_of_small_output : Site
+site_of_small_output = record site { limits = record small_limits { output = 30 } }
+
 -- one host, whose WebSocket names the origin that it takes
 abbrev pub site_with_origins : Site
 site_with_origins = record site {

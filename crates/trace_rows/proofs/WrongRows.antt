@@ -2,14 +2,14 @@
 use Rattle.std.proofs.Common.{◌≡◌, List, [], ◌∷◌, refl}
 use Rattle.std.specs.Prelude.{codes}
 use Rattle.host_base.specs.declared.cause.Cause.TheVariants.{OutputBroken, RunTime}
-use Rattle.host_trace.specs.declared.items.Event.TheVariants.{Accepted, ClientBytes, ClientEof, ClientGone, Wrote, Started, ChildBytes, ChildEof, ChildBroken, Exited, Tick, Stop}
+use Rattle.host_trace.specs.declared.items.Event.TheVariants.{Accepted, ClientBytes, ClientEof, ClientGone, Wrote, Started, ChildBytes, ChildEof, ChildBroken, Exited, NoRoom, Tick, Stop}
 use Rattle.host_trace.specs.declared.items.Act.TheVariants.{WantClient, Write, Shut, Start, EndInput, WantChild, Kill, Upgrade}
 use Rattle.host_trace.specs.declared.items.Item.{Item}
 use Rattle.host_trace.specs.declared.items.Item.TheVariants.{In, Out}
 use Rattle.host_trace.specs.declared.items.Why.TheVariants.{Done, Gone, Cut, Full, NoMemory}
 use Rattle.trace_model.specs.Verdict.{broken_by}
 use Rattle.trace_rows.proofs.OnDates.{on_dates}
-use Rattle.trace_rows.proofs.Site.{site, peer, launch, launch_with_body}
+use Rattle.trace_rows.proofs.Site.{site, site_of_small_output, peer, launch, launch_with_body}
 
 -- the end mark is missing though the output ended
 abbrev pub no_end_mark : List Item
@@ -533,3 +533,43 @@ one_too_many =
 one_too_many_is_wrong : broken_by site one_too_many ≡ codes "slots" ∷ []
 unfolding on_dates
 one_too_many_is_wrong = refl
+
+-- where memory was wanting, a reply begins though its run was decided otherwise
+abbrev pub begun_after_no_room : List Item
+begun_after_no_room =
+    In (Accepted peer) ∷ Out (WantClient 0)
+    ∷ In (ClientBytes 0 (codes "HEAD /h HTTP/1.1\r\nHost: a\r\n\r\n")) ∷ Out (Start 0 0 0 0 (launch (codes "/p") (codes "HEAD") (codes "/h")))
+    ∷ In (Started 0) ∷ Out (EndInput 0) ∷ Out (WantChild 0)
+    ∷ In (ChildBytes 0 (codes "Content-Type: text/plain\n\nhi\n")) ∷ Out (WantChild 0)
+    ∷ In (NoRoom 0) ∷ Out (Write 0 (codes "HTTP/1.1 200 OK\r\nContent-Type: text/plain\r\n\r\n")) ∷ Out (Kill 0) ∷ Out (Shut 0 NoMemory) ∷ []
+
+begun_after_no_room_is_wrong : broken_by site begun_after_no_room ≡ codes "replies" ∷ []
+unfolding on_dates
+begun_after_no_room_is_wrong = refl
+
+-- .. and so does a script's own
+abbrev pub begun_after_a_broken_pipe : List Item
+begun_after_a_broken_pipe =
+    In (Accepted peer) ∷ Out (WantClient 0)
+    ∷ In (ClientBytes 0 (codes "GET /n HTTP/1.1\r\nHost: a\r\n\r\n")) ∷ Out (Start 0 0 0 0 (launch (codes "/r") (codes "GET") (codes "/n")))
+    ∷ In (Started 0) ∷ Out (EndInput 0) ∷ Out (WantChild 0)
+    ∷ In (ChildBytes 0 (codes "ab")) ∷ Out (WantChild 0)
+    ∷ In (ChildBroken 0) ∷ Out (Write 0 (codes "a")) ∷ Out (Kill 0) ∷ Out (Shut 0 NoMemory) ∷ []
+
+begun_after_a_broken_pipe_is_wrong : broken_by site begun_after_a_broken_pipe ≡ codes "replies" ∷ []
+unfolding on_dates
+begun_after_a_broken_pipe_is_wrong = refl
+
+-- where memory was wanting, the bytes that passed the limit of the output are written
+abbrev pub written_past_the_limit : List Item
+written_past_the_limit =
+    In (Accepted peer) ∷ Out (WantClient 0)
+    ∷ In (ClientBytes 0 (codes "GET /h HTTP/1.1\r\nHost: a\r\n\r\n")) ∷ Out (Start 0 0 0 0 (launch (codes "/p") (codes "GET") (codes "/h")))
+    ∷ In (Started 0) ∷ Out (EndInput 0) ∷ Out (WantChild 0)
+    ∷ In (ChildBytes 0 (codes "Content-Type: text/plain\n\nhi\n")) ∷ Out (WantChild 0)
+    ∷ In (Tick 0) ∷ Out (Write 0 (codes "HTTP/1.1 200 OK\r\nContent-Type: text/plain\r\nDate: Thu, 01 Jan 1970 00:00:00 GMT\r\nTransfer-Encoding: chunked\r\n\r\n3\r\nhi\n\r\n"))
+    ∷ In (ChildBytes 0 (codes "bcde")) ∷ Out (Write 0 (codes "4\r\nbcde\r\n")) ∷ Out (Kill 0) ∷ Out (Shut 0 NoMemory) ∷ []
+
+written_past_the_limit_is_wrong : broken_by site_of_small_output written_past_the_limit ≡ codes "replies" ∷ []
+unfolding on_dates
+written_past_the_limit_is_wrong = refl

@@ -1,8 +1,8 @@
 -- WebSockets that break a rule, and which, by computation.
 use Rattle.std.proofs.Common.{◌≡◌, List, [], ◌∷◌, refl}
 use Rattle.std.specs.Prelude.{codes}
-use Rattle.host_trace.specs.declared.items.Event.TheVariants.{Accepted, ClientBytes, Started, ChildBytes, ChildEof}
-use Rattle.host_trace.specs.declared.items.Act.TheVariants.{WantClient, Write, Shut, Start, EndInput, WantChild, Upgrade, Says, CloseWs}
+use Rattle.host_trace.specs.declared.items.Event.TheVariants.{Accepted, ClientBytes, Started, ChildBytes, ChildEof, WsText}
+use Rattle.host_trace.specs.declared.items.Act.TheVariants.{WantClient, Write, Shut, Start, Feed, EndInput, WantChild, Upgrade, Says, CloseWs}
 use Rattle.host_trace.specs.declared.items.Item.{Item}
 use Rattle.host_trace.specs.declared.items.Item.TheVariants.{In, Out}
 use Rattle.host_trace.specs.declared.items.Why.TheVariants.{Done}
@@ -76,3 +76,15 @@ another_code =
 another_code_is_wrong : broken_by site another_code ≡ codes "talks" ∷ []
 unfolding on_talks
 another_code_is_wrong = refl
+
+-- a text and its LF are fed as two pieces
+abbrev pub fed_in_pieces : List Item
+fed_in_pieces =
+    In (Accepted peer) ∷ Out (WantClient 0)
+    ∷ In (ClientBytes 0 (codes "GET /w HTTP/1.1\r\nHost: a\r\nUpgrade: websocket\r\nConnection: Upgrade\r\nSec-WebSocket-Key: dGhlIHNhbXBsZSBub25jZQ==\r\nSec-WebSocket-Version: 13\r\n\r\nf")) ∷ Out (Write 0 (codes "HTTP/1.1 101 Switching Protocols\r\nUpgrade: websocket\r\nConnection: Upgrade\r\nSec-WebSocket-Accept: s3pPLMBiTxaQ9kYGzzhZRbK+xOo=\r\n\r\n")) ∷ Out (Upgrade 0 (codes "f")) ∷ Out (Start 0 0 0 0 (launch_talk (codes "/s") (codes "GET") (codes "/w")))
+    ∷ In (Started 0) ∷ Out (WantChild 0) ∷ Out (WantClient 0)
+    ∷ In (WsText 0 (codes "a")) ∷ Out (Feed 0 (codes "a")) ∷ Out (Feed 0 (codes "\n")) ∷ []
+
+fed_in_pieces_is_wrong : broken_by site fed_in_pieces ≡ codes "talks" ∷ []
+unfolding on_talks
+fed_in_pieces_is_wrong = refl
