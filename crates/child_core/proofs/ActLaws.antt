@@ -1,23 +1,19 @@
 -- The acts of a run, one after another.
-use Rattle.std.proofs.Common.{◌≡◌, ℕ, zero, suc, ◌+◌, ◌-◌, ◌≤◌, List, [], ◌∷◌, ◌++◌, Bool, true, false, ◌||◌, ◌&&◌, refl, sym, ◌∙◌, ap, arith, Option, Some, None, length, take, drop, append-nil, append_assoc, subst, inl, inr, map}
-use Rattle.std.specs.Prelude.{if◌then◌else◌, ◌==◌, not, nat_le, nat_lt, is_some, min}
-use Rattle.std.proofs.lemmas.Bool.{cases_Bool, and_parts, and_from, or_parts, not-true, false≢true, eq-eqb, eqb-true, le-leb, lt-ltb, ne_eqb}
+use Rattle.std.proofs.Common.{◌≡◌, ℕ, zero, suc, ◌+◌, ◌≤◌, List, [], ◌∷◌, ◌++◌, Bool, true, false, ◌||◌, ◌&&◌, refl, sym, ◌∙◌, ap, arith, Option, Some, None, length, take, drop, inl, inr}
+use Rattle.std.specs.Prelude.{if◌then◌else◌, ◌==◌, not, is_some, min}
+use Rattle.std.proofs.lemmas.Bool.{cases_Bool, and_parts, and_from, false≢true, eq-eqb, le-leb, lt-ltb, ne_eqb}
 use Rattle.host_trace.specs.declared.items.Act.{Act}
 use Rattle.host_trace.specs.declared.items.Act.TheVariants.{Feed, EndInput, Kill, Release, WantChild}
-use Rattle.host_trace.specs.declared.items.Item.{Item}
-use Rattle.host_trace.specs.declared.items.Item.TheVariants.{In, Out}
+use Rattle.host_trace.specs.declared.items.Item.TheVariants.{Out}
 use Rattle.host_trace.specs.First.{or_else}
 use Rattle.host_trace.specs.Fits.{is_piece}
-use Rattle.host_trace.specs.Kinds.{is_start, is_feed, is_end_input, is_kill, is_release, is_want_child, input_fed}
 use Rattle.host_trace.specs.Told.{when}
 use Rattle.host_trace.specs.Decider.{is_websocket}
 use Rattle.trace_child.specs.Words.{is_filled}
-use Rattle.child_core.specs.View.{View, plain, noted, without, more_by, verdict}
-use Rattle.child_core.specs.Due.{is_feed_due, is_input_due, is_kill_due, is_release_due, is_ask_due, wants_input_end, wants_kill, wants_release, wants_output, piece_len, piece_of, fed, feeding, feed_given, input_given, kill_given, release_given, ask_given, acted, acting, is_at_rest}
-use Rattle.child_core.specs.Setting.{Setting, run_in}
-use Rattle.child_core.specs.Knows.{Knows, Admits}
-use Rattle.child_core.specs.Walk.{MayAct, Walk, walked, Deserved}
-use Rattle.child_core.proofs.EndLaws.{Knows-walk}
+use Rattle.child_core.specs.View.{View, plain, noted, without, more_by}
+use Rattle.child_core.specs.Due.{is_feed_due, is_input_due, is_kill_due, is_release_due, is_ask_due, wants_input_end, wants_kill, wants_release, wants_output, piece_len, piece_of, fed, feeding, feed_given, input_given, kill_given, release_given, acted, acting, is_at_rest}
+use Rattle.child_core.specs.Setting.{Setting}
+use Rattle.child_core.specs.Walk.{walked, Deserved}
 
 pub and_false : (b : Bool) → (b && false) ≡ false
 and_false true = refl
@@ -45,7 +41,7 @@ without_own (b ∷ f) r u e = ap (λ l. (b ∷ f) ++ l) (ap (λ l. drop (length 
 pub piece_rest : (v : View) → piece_of v ++ without (piece_of v) v.unfed ≡ v.unfed
 piece_rest v = without_own (piece_of v) (drop (piece_len v) v.unfed) v.unfed (take_rest (piece_len v) v.unfed)
 
-len_take : (m : ℕ) (u : List ℕ) → m ≤ length u → length (take m u) ≡ m
+pub len_take : (m : ℕ) (u : List ℕ) → m ≤ length u → length (take m u) ≡ m
 len_take zero u le = refl
 len_take (suc m) [] le = absurd (omega arith)
 len_take (suc m) (b ∷ u) le = let r = len_take m u (omega (arith, le)) in omega (arith, r)
@@ -133,7 +129,7 @@ grown : (f : List ℕ) (n : ℕ) → 1 ≤ length f → (more_by f n == 0) ≡ f
 grown [] n le = absurd (omega arith)
 grown (b ∷ f) n le = ne_eqb (n + length (b ∷ f)) 0 (λ e. absurd (omega (arith, le, e)))
 
-piece_filled : (v : View) → is_filled v.unfed ≡ true → 1 ≤ length (piece_of v)
+pub piece_filled : (v : View) → is_filled v.unfed ≡ true → 1 ≤ length (piece_of v)
 piece_filled v full = elim (cases_Bool (is_websocket v.kind)) [
   | inl ws ↦
       let n : piece_len v ≡ length v.unfed = rw ws refl in

@@ -1,26 +1,20 @@
 -- What fits may come next, and so may an act that is due.
-use Rattle.std.proofs.Common.{◌≡◌, ℕ, ◌+◌, ◌-◌, ◌≤◌, List, [], ◌∷◌, ◌++◌, Bool, true, false, ◌||◌, ◌&&◌, refl, sym, ◌∙◌, ap, arith, Option, Some, None, length, take, drop, append-nil, append_assoc, subst, inl, inr, map}
-use Rattle.std.specs.Prelude.{if◌then◌else◌, ◌==◌, not, nat_le, nat_lt, is_some, count_by, min}
-use Rattle.std.specs.List.{list_any}
-use Rattle.std.proofs.lemmas.Bool.{cases_Bool, and_parts, and_from, or_parts, not-true, not_from_false, false≢true, eq-eqb, eqb-true, leb-true, le-leb, lt-ltb}
+use Rattle.std.proofs.Common.{◌≡◌, ℕ, ◌+◌, ◌≤◌, List, [], ◌∷◌, Bool, true, false, ◌||◌, ◌&&◌, refl, sym, ◌∙◌, ap, arith}
+use Rattle.std.specs.Prelude.{if◌then◌else◌, ◌==◌, not, nat_le}
+use Rattle.std.proofs.lemmas.Bool.{and_parts, not-true, eqb-true, leb-true}
 use Rattle.std.proofs.lemmas.Bool.Decides.{nat_tests}
 use Rattle.host_trace.specs.declared.items.Event.{Event}
 use Rattle.host_trace.specs.declared.items.Event.TheVariants.{Started, StartFailed, StartFull, ChildBytes, ChildEof, ChildBroken, Took, InputGone, Exited}
-use Rattle.host_trace.specs.declared.items.Act.{Act}
-use Rattle.host_trace.specs.declared.items.Act.TheVariants.{Feed, EndInput, Kill, Release, WantChild}
 use Rattle.host_trace.specs.declared.items.Item.{Item}
-use Rattle.host_trace.specs.declared.items.Item.TheVariants.{In, Out}
+use Rattle.host_trace.specs.declared.items.Item.TheVariants.{In}
 use Rattle.host_trace.specs.Fits.{fits, is_start_open, is_output_asked, may_take, is_piece}
-use Rattle.host_trace.specs.Kinds.{names_child, is_start_answer, is_started, is_start_failed, is_start_full, is_exited, is_child_answer, is_child_eof, is_end_input, count_took, input_fed}
-use Rattle.host_trace.specs.Projections.{started, exited, input_ended, output_ended, child_wanted, child_in, took_sum, start_stands, start_answered}
+use Rattle.host_trace.specs.Kinds.{names_child, is_start_answer, is_started, is_start_failed, is_start_full, is_exited, is_child_answer, is_child_eof, count_took}
+use Rattle.host_trace.specs.Projections.{started, exited, input_ended, took_sum, start_answered}
 use Rattle.host_trace.specs.Account.{start_refused}
-use Rattle.host_trace.specs.Decider.{is_websocket}
-use Rattle.trace_child.specs.Words.{is_filled}
-use Rattle.child_core.specs.View.{View, Note, plain, noted, without}
+use Rattle.child_core.specs.View.{View, Note}
 use Rattle.child_core.specs.Calls.{may_come, fits_run}
-use Rattle.child_core.specs.Due.{Due, is_feed_due, is_input_due, is_ask_due, wants_input_end, wants_output, piece_of, piece_len}
-use Rattle.child_core.specs.Setting.{Setting, run_in}
-use Rattle.child_core.specs.Knows.{Knows, Admits, Offers, one_if}
+use Rattle.child_core.specs.Setting.{Setting}
+use Rattle.child_core.specs.Knows.{Knows, Admits, Offers}
 use Rattle.child_core.proofs.EndLaws.{wanted_is}
 use Rattle.child_core.proofs.WordLaws.{start_answer_names, answer_names}
 

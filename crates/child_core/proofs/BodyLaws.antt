@@ -1,26 +1,25 @@
 -- What a run knows of the body that it feeds, with one more item.
-use Rattle.std.proofs.Common.{◌≡◌, ℕ, ◌+◌, ◌-◌, ◌≤◌, List, [], ◌∷◌, ◌++◌, Bool, true, false, ◌||◌, ◌&&◌, refl, sym, ◌∙◌, ap, arith, Option, length, length-append, append-nil, append_assoc, subst, inl, inr}
+use Rattle.std.proofs.Common.{◌≡◌, ℕ, ◌+◌, ◌≤◌, List, [], ◌∷◌, ◌++◌, Bool, true, false, ◌||◌, ◌&&◌, refl, sym, ◌∙◌, ap, arith, length, length-append, append-nil, append_assoc, subst, inl, inr}
 use Rattle.std.specs.Prelude.{if◌then◌else◌, ◌==◌, not, is_some, bytes_eq}
 use Rattle.std.specs.List.{list_any}
 use Rattle.std.proofs.lemmas.Bool.{cases_Bool, and_parts, and_from, or_parts, or_left, or_right, not-true, not_from_false, false≢true, eq-eqb}
 use Rattle.std.proofs.lemmas.Slice.Eq.{bytes_eq-Decides}
 use Rattle.host_trace.specs.declared.items.Act.TheVariants.{Feed, EndInput}
 use Rattle.host_trace.specs.declared.items.Item.{Item}
-use Rattle.host_trace.specs.declared.items.Item.TheVariants.{In, Out}
+use Rattle.host_trace.specs.declared.items.Item.TheVariants.{Out}
 use Rattle.host_trace.specs.Fits.{is_piece}
 use Rattle.host_trace.specs.Kinds.{is_feed, is_end_input, is_input_end, is_shut_for_memory, is_ws_closed, input_fed, count_took}
-use Rattle.host_trace.specs.Projections.{child_in, took_sum, input_ended, shut_for_memory}
+use Rattle.host_trace.specs.Projections.{child_in, took_sum, shut_for_memory}
 use Rattle.host_trace.specs.Decider.{is_websocket}
 use Rattle.host_trace.proofs.FirstLaws.{list_any-push}
 use Rattle.host_trace.proofs.ProjectionLaws.{child_in-push, took_sum-push, shut_for_memory-push}
 use Rattle.trace_child.specs.Words.{implies, each, until, is_filled}
-use Rattle.trace_child.specs.Run.{Run, Offer}
 use Rattle.trace_child.specs.Decided.{is_decided}
 use Rattle.trace_child.specs.Bodies.{is_fed_in_turn, ends_reading, is_excused, owes_whole}
 use Rattle.trace_child.specs.ChildDemands.{is_all_taken, is_fed_whole as is_body_fed}
 use Rattle.trace_child.proofs.WordLaws.{each-push, implied, implies_from}
 use Rattle.child_core.specs.View.{View, Note, without, more_if, more_by, less_by, cleared}
-use Rattle.child_core.specs.Due.{wants_input_end, is_fed_whole}
+use Rattle.child_core.specs.Due.{is_fed_whole}
 use Rattle.child_core.specs.Setting.{Setting, run_in}
 use Rattle.child_core.specs.Knows.{Knows, Admits, IsFront}
 use Rattle.child_core.proofs.WordLaws.{more_if-counts, more_by-is, less_by-is}

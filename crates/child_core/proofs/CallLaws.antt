@@ -1,6 +1,6 @@
 -- What the calls of a run make of it is what an item of the list makes of it.
-use Rattle.std.proofs.Common.{◌≡◌, ℕ, List, [], ◌∷◌, Bool, true, false, ◌||◌, ◌&&◌, refl, sym, ◌∙◌, ap, Option, Some, None}
-use Rattle.std.specs.Prelude.{◌==◌, not, is_some}
+use Rattle.std.proofs.Common.{◌≡◌, ℕ, List, Bool, true, false, refl}
+use Rattle.std.specs.Prelude.{not, is_some}
 use Rattle.std.proofs.lemmas.Bool.{eq-eqb}
 use Rattle.host_trace.specs.declared.items.Event.{Event}
 use Rattle.host_trace.specs.declared.items.Event.TheVariants.{ClientBytes, ClientEof, ClientGone, Started, StartFailed, StartFull, ChildBytes, ChildEof, ChildBroken, Took, InputGone, Exited, WsText, WsBinary, WsClosed, WsBad, NoRoom, Tick, Stop}
@@ -8,8 +8,8 @@ use Rattle.host_trace.specs.declared.items.Act.TheVariants.{Shut}
 use Rattle.host_trace.specs.declared.items.Item.TheVariants.{In, Out}
 use Rattle.host_trace.specs.declared.items.Why.TheVariants.{NoMemory}
 use Rattle.host_trace.specs.Decider.{is_websocket}
-use Rattle.child_core.specs.declared.ending.Ending.TheVariants.{Gone, Stopped, Dropped, Refused, Incomplete}
-use Rattle.child_core.specs.View.{View, Note, plain, noted}
+use Rattle.child_core.specs.declared.ending.Ending.TheVariants.{Gone, Dropped, Refused, Incomplete}
+use Rattle.child_core.specs.View.{View, plain, noted}
 use Rattle.child_core.specs.Calls.{is_heard, hearing, heard, ended, closed, offered}
 use Rattle.child_core.proofs.ActLaws.{and_false, or_none}
 

@@ -1,25 +1,21 @@
 -- What a run makes of an item that may decide it, and what the rules on traces make of it.
 use Rattle.std.proofs.Common.{◌≡◌, ℕ, ◌+◌, ◌-◌, ◌≤◌, List, [], ◌∷◌, ◌++◌, Bool, true, false, ◌||◌, ◌&&◌, refl, sym, ◌∙◌, ap, arith, Option, Some, None, length, length-append, subst, inl, inr}
 use Rattle.std.specs.Prelude.{if◌then◌else◌, ◌==◌, not, nat_lt, is_some, option_map, option_and_then}
-use Rattle.std.specs.List.{flat_map, list_any}
 use Rattle.std.proofs.lemmas.Bool.{cases_Bool, and_parts, not-true}
 use Rattle.std.proofs.lemmas.Bool.Decides.{nat_tests}
 use Rattle.host_base.specs.declared.cause.Cause.TheVariants.{StartFailed as StartFailedCause, OutputBroken, OutputTooLarge, RunTime, Full, Incomplete}
-use Rattle.host_base.specs.declared.limits.Limits.{Limits}
-use Rattle.host_base.specs.declared.site.ScriptKind.{ScriptKind}
-use Rattle.host_base.specs.declared.site.ScriptKind.TheVariants.{Cgi, Nph, WebSocket}
 use Rattle.host_trace.specs.declared.items.Event.TheVariants.{ClientEof, ClientGone, StartFailed, StartFull, ChildBytes, ChildEof, ChildBroken, WsText, WsBinary, WsBad, NoRoom, Tick, Stop}
 use Rattle.host_trace.specs.declared.items.Act.TheVariants.{Shut}
 use Rattle.host_trace.specs.declared.items.Item.{Item}
 use Rattle.host_trace.specs.declared.items.Item.TheVariants.{In, Out}
-use Rattle.host_trace.specs.First.{since, first_front, last_of, or_else}
-use Rattle.host_trace.specs.Kinds.{is_start, is_child_eof, is_child_bytes, is_tick, is_no_memory, output_heard}
+use Rattle.host_trace.specs.First.{since, last_of, or_else}
+use Rattle.host_trace.specs.Kinds.{is_start, is_child_eof, is_no_memory, output_heard}
 use Rattle.host_trace.specs.Projections.{child_out, tick_count, shut, start_stands}
-use Rattle.host_trace.specs.Decider.{decides, outcome_by, is_websocket, passes_output, is_last_tick, is_long_text, makes_long_line}
-use Rattle.host_trace.proofs.FirstLaws.{first_front-push, flat_map-push, last_of-append}
+use Rattle.host_trace.specs.Decider.{decides, is_websocket, is_long_text, makes_long_line}
+use Rattle.host_trace.proofs.FirstLaws.{first_front-push, last_of-append}
 use Rattle.host_trace.proofs.ProjectionLaws.{child_out-push}
 use Rattle.trace_child.specs.Run.{Run}
-use Rattle.trace_child.specs.Decided.{decides_run, cuts_body_short, decided_at, deciding_item, outcome_at, outcome_of, is_decided, is_by_output, is_output_end_of}
+use Rattle.trace_child.specs.Decided.{decides_run, cuts_body_short, decided_at, outcome_at, outcome_of, is_decided, is_by_output, is_output_end_of}
 use Rattle.child_core.specs.declared.ending.Outcome.{Outcome}
 use Rattle.child_core.specs.declared.ending.Outcome.TheVariants.{Output, Failed, Gone, Stopped, Dropped}
 use Rattle.child_core.specs.View.{View, Note, is_output, chosen, by_bytes, verdict}

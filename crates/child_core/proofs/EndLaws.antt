@@ -1,38 +1,35 @@
 -- What holds of a child at the end of a step at which nothing is due for it.
-use Rattle.std.proofs.Common.{◌≡◌, ℕ, zero, suc, ◌+◌, ◌-◌, ◌≤◌, List, [], ◌∷◌, ◌++◌, Bool, true, false, ◌||◌, ◌&&◌, refl, sym, ◌∙◌, ap, arith, Option, Some, None, length, length-append, append-nil, append_assoc, add-zero, subst, inl, inr, map}
+use Rattle.std.proofs.Common.{◌≡◌, ℕ, ◌+◌, ◌-◌, List, [], ◌∷◌, ◌++◌, Bool, true, false, ◌||◌, ◌&&◌, refl, sym, ◌∙◌, ap, arith, Option, Some, None, length, length-append, append-nil, append_assoc, add-zero, subst, inl, inr, map}
 use Rattle.std.specs.Prelude.{if◌then◌else◌, ◌==◌, not, nat_le, nat_lt, nat_eq, is_some, count_by, bytes_eq}
 use Rattle.std.specs.List.{list_any, starts_with, fold}
-use Rattle.std.proofs.lemmas.Bool.{cases_Bool, and_parts, and_from, or_parts, not-true, not-false, not_from_false, false≢true, eq-eqb, le-leb, lt-ltb, ltb-true}
-use Rattle.std.proofs.lemmas.Bool.Decides.{nat_tests, Decides-eqb}
+use Rattle.std.proofs.lemmas.Bool.{cases_Bool, and_parts, and_from, or_parts, not-true, not_from_false, eq-eqb, le-leb, lt-ltb, ltb-true}
+use Rattle.std.proofs.lemmas.Bool.Decides.{nat_tests}
 use Rattle.std.proofs.lemmas.Grind.{common_steps}
-use Rattle.std.proofs.lemmas.Slice.Eq.{starts_is, bytes_eq-Decides}
+use Rattle.std.proofs.lemmas.Slice.Eq.{bytes_eq-Decides}
 use Rattle.host_trace.specs.declared.items.Act.{Act}
 use Rattle.host_trace.specs.declared.items.Item.{Item}
-use Rattle.host_trace.specs.declared.items.Item.TheVariants.{In, Out}
+use Rattle.host_trace.specs.declared.items.Item.TheVariants.{Out}
 use Rattle.host_trace.specs.First.{since}
-use Rattle.host_trace.specs.Kinds.{is_start, is_start_answer, is_exited, is_end_input, is_kill, is_release, is_want_child, is_input_end, is_output_end, is_child_answer, is_child_eof, is_child_broken, is_input_gone, is_ws_closed}
-use Rattle.host_trace.specs.Projections.{started, exited, killed, input_ended, output_ended, child_wanted, child_in, took_sum, tick_count, stopped, shut_for_memory}
+use Rattle.host_trace.specs.Kinds.{is_end_input, is_kill, is_release, is_want_child, is_child_eof, is_ws_closed}
+use Rattle.host_trace.specs.Projections.{started, exited, killed, input_ended, output_ended, child_wanted, child_in, took_sum, tick_count, stopped}
 use Rattle.host_trace.specs.Account.{is_account}
 use Rattle.host_trace.specs.Decider.{is_websocket}
-use Rattle.trace_child.specs.Words.{implies, each, given, once, is_filled}
-use Rattle.trace_child.specs.Run.{Run, takes_body}
-use Rattle.trace_child.specs.Decided.{is_decided, is_by_output, is_by_other}
-use Rattle.trace_child.specs.ChildDemands.{is_all_taken, is_fed_whole as is_body_fed, is_hung_up, is_left_alone as left_alone, is_waited_out, has_lingered as lingered, ends_waiting, must_end_input, must_kill, must_release, must_ask}
-use Rattle.trace_child.specs.Bodies.{bodies, is_fed_in_turn, owes_whole}
+use Rattle.trace_child.specs.Words.{implies, given, once, is_filled}
+use Rattle.trace_child.specs.Decided.{is_decided, is_by_other}
+use Rattle.trace_child.specs.ChildDemands.{is_all_taken, is_fed_whole as is_body_fed, is_left_alone as left_alone, has_lingered as lingered, ends_waiting, must_end_input, must_kill, must_release, must_ask}
+use Rattle.trace_child.specs.Bodies.{bodies}
 use Rattle.trace_child.specs.Feeds.{feeds, is_fed_now, lacks_body}
 use Rattle.trace_child.specs.HandlesDecided.{handles_decided}
 use Rattle.trace_child.specs.Lingers.{lingers}
 use Rattle.trace_child.specs.Stops.{stops_child}
-use Rattle.trace_child.specs.ChildActs.{child_acts}
 use Rattle.trace_child.specs.ChildGood.{ChildGood}
 use Rattle.trace_child.proofs.WordLaws.{implies_from}
 use Rattle.child_core.specs.declared.ending.Outcome.{Outcome}
 use Rattle.child_core.specs.View.{View, plain, noted, is_output, is_other, asked_by}
 use Rattle.child_core.specs.Due.{is_fed_whole, is_left_alone, has_lingered, wants_input_end, wants_kill, wants_release, wants_output, is_feed_due, is_input_due, is_kill_due, is_release_due, is_ask_due, is_at_rest}
 use Rattle.child_core.specs.Setting.{Setting, run_in}
-use Rattle.child_core.specs.Knows.{Knows, Admits, IsFront, one_if, waited, is_given_up}
-use Rattle.child_core.specs.Walk.{MayAct, Walk, walked, Deserved}
-use Rattle.child_core.proofs.WordLaws.{tells}
+use Rattle.child_core.specs.Knows.{Knows, one_if}
+use Rattle.child_core.specs.Walk.{Walk, walked, Deserved}
 use Rattle.child_core.proofs.KnowsLaws.{Knows-noted}
 
 -- ---- demands of the rules are what the run wants

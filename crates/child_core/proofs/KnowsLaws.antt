@@ -1,34 +1,27 @@
 -- A run that notes an item knows the list with that item.
-use Rattle.std.proofs.Common.{◌≡◌, ℕ, zero, suc, ◌+◌, ◌-◌, ◌≤◌, List, [], ◌∷◌, ◌++◌, Bool, true, false, ◌||◌, ◌&&◌, refl, sym, ◌∙◌, ap, arith, Option, Some, None, length, drop, length-append, append-nil, append_assoc, add-zero, subst, inl, inr}
-use Rattle.std.specs.Prelude.{if◌then◌else◌, ◌==◌, not, nat_lt, is_some, option_map, count_by, sum_by}
-use Rattle.std.specs.List.{flat_map, list_any}
-use Rattle.std.proofs.lemmas.Bool.{cases_Bool, and_parts, and_from, or_parts, or_cases, or_left, or_right, not-true, not_from_false, false≢true, ltb-false, leb-true, eqb-true}
-use Rattle.std.proofs.lemmas.Bool.Decides.{nat_tests}
-use Rattle.host_base.specs.declared.limits.Limits.{Limits}
-use Rattle.host_trace.specs.declared.items.Event.TheVariants.{ChildBytes, ChildEof, Tick, Stop, WsClosed}
-use Rattle.host_trace.specs.declared.items.Act.TheVariants.{Feed, EndInput}
+use Rattle.std.proofs.Common.{◌≡◌, ℕ, ◌-◌, ◌≤◌, List, [], ◌∷◌, ◌++◌, Bool, true, false, ◌||◌, ◌&&◌, refl, sym, ◌∙◌, ap, arith, Option, Some, None, length, length-append, add-zero, subst, inl, inr}
+use Rattle.std.specs.Prelude.{if◌then◌else◌, ◌==◌, not, nat_lt, is_some}
+use Rattle.std.specs.List.{list_any}
+use Rattle.std.proofs.lemmas.Bool.{cases_Bool, and_parts, or_parts, or_cases, or_right, false≢true, ltb-false}
+use Rattle.host_trace.specs.declared.items.Event.TheVariants.{ChildBytes, ChildEof, Stop, WsClosed}
 use Rattle.host_trace.specs.declared.items.Item.{Item}
-use Rattle.host_trace.specs.declared.items.Item.TheVariants.{In, Out}
+use Rattle.host_trace.specs.declared.items.Item.TheVariants.{In}
 use Rattle.host_trace.specs.First.{since, or_else}
-use Rattle.host_trace.specs.Fits.{is_piece}
-use Rattle.host_trace.specs.Kinds.{is_start, is_started, is_start_answer, is_exited, is_input_end, is_output_end, is_kill, is_want_child, is_child_answer, is_child_eof, is_child_broken, is_release, is_start_failed, is_start_full, is_tick, is_stop, is_ws_closed, is_feed, is_end_input, output_heard, input_fed, count_took}
-use Rattle.host_trace.specs.Projections.{child_out, child_in, took_sum, tick_count, stopped, output_ended}
+use Rattle.host_trace.specs.Kinds.{is_start, is_started, is_start_answer, is_exited, is_input_end, is_output_end, is_kill, is_want_child, is_child_answer, is_child_eof, is_child_broken, is_release, is_start_failed, is_start_full, is_tick, is_stop, is_ws_closed, is_feed, output_heard}
+use Rattle.host_trace.specs.Projections.{child_out, child_in, tick_count, stopped, output_ended}
 use Rattle.host_trace.specs.Account.{is_refusal}
 use Rattle.host_trace.specs.Decider.{is_websocket}
-use Rattle.host_trace.proofs.FirstLaws.{list_any-push, count_by-push}
+use Rattle.host_trace.proofs.FirstLaws.{count_by-push}
 use Rattle.trace_child.specs.Decided.{decides_run}
 use Rattle.child_core.proofs.BodyLaws.{body_push, front_undecided, front_decided, whole_push, took_push, in_turn_push, owes_push}
-use Rattle.host_trace.proofs.ProjectionLaws.{child_out-push, child_in-push, took_sum-push, tick_count-push, stopped-push}
-use Rattle.trace_child.specs.Words.{implies, each}
-use Rattle.trace_child.specs.Bodies.{is_fed_in_turn}
-use Rattle.trace_child.specs.ChildDemands.{is_all_taken, is_hung_up, ends_waiting}
-use Rattle.trace_child.proofs.WordLaws.{each-push, implies_from}
+use Rattle.host_trace.proofs.ProjectionLaws.{child_out-push, tick_count-push, stopped-push}
+use Rattle.trace_child.specs.ChildDemands.{ends_waiting}
 use Rattle.child_core.specs.declared.ending.Outcome.{Outcome}
 use Rattle.child_core.specs.declared.ending.Outcome.TheVariants.{Output, Failed, Gone, Stopped, Dropped}
-use Rattle.child_core.specs.View.{View, Note, noted, is_output, is_other, verdict, outcome_after, ends_now, ticked, less_by, more_by, more_if, without, cleared, by_bytes, chosen}
+use Rattle.child_core.specs.View.{View, Note, noted, is_output, is_other, verdict, outcome_after, ticked, less_by, by_bytes, chosen}
 use Rattle.child_core.specs.Setting.{Setting, run_in}
-use Rattle.child_core.specs.Knows.{Knows, Admits, IsFront, one_if, waited, is_given_up}
-use Rattle.child_core.proofs.WordLaws.{tells, contra, any-push, any-stays, any-new, since_begun, since_none, since_first, once-push, asked-push, apart, more_if-counts, more_by-is, less_by-is, ticked-is}
+use Rattle.child_core.specs.Knows.{Knows, Admits, IsFront, one_if, is_given_up}
+use Rattle.child_core.proofs.WordLaws.{any-push, any-stays, any-new, since_begun, since_first, once-push, asked-push, apart, less_by-is, ticked-is}
 use Rattle.child_core.proofs.DecideLaws.{Counts, Stands, Stands-push, row_is, verdict_reads}
 
 none_is : {X : Type 0} (o : Option X) → is_some o ≡ false → o ≡ None

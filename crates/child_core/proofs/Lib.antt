@@ -8,3 +8,7 @@ pub mod StartLaws
 pub mod ActLaws
 pub mod StepLaws
 pub mod CallLaws
+pub mod TellLaws
+pub mod OutputLaws
+pub mod MemoryLaws
+pub mod BehindLaws

@@ -1,31 +1,28 @@
 -- A run whose Start is given knows the list that ends with its Start.
-use Rattle.std.proofs.Common.{◌≡◌, ℕ, ◌+◌, ◌-◌, ◌≤◌, List, [], ◌∷◌, ◌++◌, Bool, true, false, ◌||◌, ◌&&◌, refl, sym, ◌∙◌, ap, arith, Option, Some, None, length, append-nil, subst, inl, inr, add-zero}
-use Rattle.std.specs.Prelude.{if◌then◌else◌, ◌==◌, not, nat_eq, is_some, count_by, option_and_then, option_map}
-use Rattle.std.specs.List.{list_any, flat_map, fold}
-use Rattle.std.proofs.lemmas.Bool.{cases_Bool, and_parts, or_parts, eq-eqb, false≢true}
+use Rattle.std.proofs.Common.{◌≡◌, ℕ, ◌+◌, List, [], ◌∷◌, ◌++◌, Bool, true, false, ◌&&◌, refl, sym, ◌∙◌, ap, arith, None, add-zero}
+use Rattle.std.specs.Prelude.{is_some, count_by, option_and_then, option_map}
+use Rattle.std.specs.List.{list_any, fold}
+use Rattle.std.proofs.lemmas.Bool.{or_parts, eq-eqb, false≢true}
 use Rattle.host_base.specs.declared.launch.Launch.{Launch}
 use Rattle.host_base.specs.declared.site.ScriptKind.{ScriptKind}
 use Rattle.host_trace.specs.declared.items.Act.TheVariants.{Start, Feed}
-use Rattle.host_trace.specs.declared.items.Event.TheVariants.{ChildBytes}
 use Rattle.host_trace.specs.declared.items.Item.{Item}
-use Rattle.host_trace.specs.declared.items.Item.TheVariants.{In, Out}
-use Rattle.host_trace.specs.First.{since, first_front_from, last_of, or_else}
-use Rattle.host_trace.specs.Kinds.{is_start, is_started, is_start_answer, is_exited, is_input_end, is_output_end, is_kill, is_want_child, is_child_answer, is_end_input, is_ws_closed, is_stop, names_child, input_fed, output_heard, count_took}
-use Rattle.host_trace.specs.Projections.{child_in, child_out, took_sum, tick_count, stopped, start_stands}
+use Rattle.host_trace.specs.declared.items.Item.TheVariants.{Out}
+use Rattle.host_trace.specs.First.{since, first_front_from, last_of}
+use Rattle.host_trace.specs.Kinds.{is_start, is_started, is_start_answer, is_exited, is_input_end, is_output_end, is_kill, is_want_child, is_child_answer, is_end_input, is_ws_closed, is_stop, names_child, count_took}
+use Rattle.host_trace.specs.Projections.{child_in, stopped}
 use Rattle.host_trace.specs.Account.{is_refusal}
 use Rattle.host_trace.specs.Decider.{is_websocket}
 use Rattle.host_trace.proofs.FirstLaws.{list_any-push, count_by-push}
-use Rattle.host_trace.proofs.ProjectionLaws.{child_in-push, took_sum-push, stopped-push}
-use Rattle.trace_child.specs.Words.{each, each_from, implies}
+use Rattle.host_trace.proofs.ProjectionLaws.{child_in-push, took_sum-push}
+use Rattle.trace_child.specs.Words.{each_from}
 use Rattle.trace_child.specs.Run.{Run}
 use Rattle.trace_child.specs.Decided.{decides_run, decided_at, outcome_at, is_output_end_of}
-use Rattle.trace_child.specs.Bodies.{is_fed_in_turn, is_excused, owes_whole}
-use Rattle.trace_child.specs.ChildDemands.{is_fed_whole as is_body_fed}
-use Rattle.trace_child.proofs.WordLaws.{each-push, implies_from}
-use Rattle.child_core.specs.View.{View, begun}
+use Rattle.trace_child.specs.Bodies.{is_fed_in_turn}
+use Rattle.trace_child.proofs.WordLaws.{each-push}
 use Rattle.child_core.specs.Laws.{just_begun}
 use Rattle.child_core.specs.Setting.{Setting, run_in}
-use Rattle.child_core.specs.Knows.{Knows, one_if}
+use Rattle.child_core.specs.Knows.{Knows}
 use Rattle.child_core.proofs.WordLaws.{none, none_count, since_first, start_names, started_names, start_answer_names, refusal_names, exited_names, input_names, output_names, kill_names, want_names, answer_names, end_input_names, no_input, no_took}
 use Rattle.child_core.proofs.DecideLaws.{at_pushed}
 
@@ -33,13 +30,13 @@ any_first : (test : Item → Bool) (L : List Item) (x : Item) → list_any test 
 any_first test L x e f = sym (list_any-push test L x ∙ rw (e, f) refl)
 
 -- nothing decides a run before its Start
-undecided_before : (run : Run) (before L : List Item) → list_any (is_start run.child) before ≡ false → list_any (is_start run.child) L ≡ false → first_front_from (decides_run run) before L ≡ None
+pub undecided_before : (run : Run) (before L : List Item) → list_any (is_start run.child) before ≡ false → list_any (is_start run.child) L ≡ false → first_front_from (decides_run run) before L ≡ None
 undecided_before run before [] b e = refl
 undecided_before run before (x ∷ L) b e =
     let p = or_parts (is_start run.child x) (list_any (is_start run.child) L) e in
     rw b (undecided_before run (before ++ x ∷ []) L (list_any-push (is_start run.child) before x ∙ rw (b, p.0) refl) p.1)
 
-none_in : (k : ℕ) (L : List Item) → list_any (names_child k) L ≡ false → child_in L k ≡ []
+pub none_in : (k : ℕ) (L : List Item) → list_any (names_child k) L ≡ false → child_in L k ≡ []
 none_in k [] e = refl
 none_in k (x ∷ L) e =
     let p = or_parts (names_child k x) (list_any (names_child k) L) e in
@@ -49,13 +46,13 @@ none_turn_at : (k : ℕ) (before : List Item) (x : Item) → names_child k x ≡
 none_turn_at k before (Out (Feed d bytes)) e = rw e refl
 none_turn_at k before x e = refl
 
-none_turn : (k : ℕ) (before L : List Item) → list_any (names_child k) L ≡ false → each_from (is_fed_in_turn k) before L ≡ true
+pub none_turn : (k : ℕ) (before L : List Item) → list_any (names_child k) L ≡ false → each_from (is_fed_in_turn k) before L ≡ true
 none_turn k before [] e = refl
 none_turn k before (x ∷ L) e =
     let p = or_parts (names_child k x) (list_any (names_child k) L) e in
     rw (none_turn_at k before x p.0) (none_turn k (before ++ x ∷ []) L p.1)
 
-none_taken : (k n : ℕ) (L : List Item) → list_any (names_child k) L ≡ false → fold (λ (n : ℕ) (y : Item). n + count_took k y) n L ≡ n
+pub none_taken : (k n : ℕ) (L : List Item) → list_any (names_child k) L ≡ false → fold (λ (n : ℕ) (y : Item). n + count_took k y) n L ≡ n
 none_taken k n [] e = refl
 none_taken k n (x ∷ L) e =
     let p = or_parts (names_child k x) (list_any (names_child k) L) e in

@@ -1,13 +1,13 @@
 -- The acts that a run gives may each come when they come, and with them all rules on the child hold.
-use Rattle.std.proofs.Common.{◌≡◌, ℕ, ◌+◌, ◌≤◌, List, [], ◌∷◌, ◌++◌, Bool, true, false, ◌||◌, ◌&&◌, refl, sym, ◌∙◌, ap, arith, Option, append-nil, append_assoc, subst, inl, inr, map}
-use Rattle.std.specs.Prelude.{if◌then◌else◌, ◌==◌, not, is_some}
-use Rattle.std.proofs.lemmas.Bool.{cases_Bool, and_parts, or_parts, not-true, false≢true, eq-eqb, eqb-true}
+use Rattle.std.proofs.Common.{◌≡◌, List, [], ◌∷◌, ◌++◌, Bool, true, false, ◌||◌, ◌&&◌, refl, sym, ◌∙◌, ap, arith, append-nil, append_assoc, subst, map}
+use Rattle.std.specs.Prelude.{◌==◌, not, is_some}
+use Rattle.std.proofs.lemmas.Bool.{and_parts, not-true, eq-eqb, eqb-true}
 use Rattle.host_trace.specs.declared.items.Act.{Act}
 use Rattle.host_trace.specs.declared.items.Act.TheVariants.{Feed, EndInput, Kill, Release, WantChild}
 use Rattle.host_trace.specs.declared.items.Item.{Item}
-use Rattle.host_trace.specs.declared.items.Item.TheVariants.{In, Out}
+use Rattle.host_trace.specs.declared.items.Item.TheVariants.{Out}
 use Rattle.host_trace.specs.Fits.{is_piece}
-use Rattle.host_trace.specs.Kinds.{is_start, is_feed, is_end_input, is_kill, is_release, is_want_child, input_fed}
+use Rattle.host_trace.specs.Kinds.{is_start, is_feed, is_end_input, is_want_child, input_fed}
 use Rattle.host_trace.specs.Told.{when}
 use Rattle.host_trace.specs.Decider.{is_websocket}
 use Rattle.trace_child.specs.Words.{is_filled}
@@ -19,7 +19,7 @@ use Rattle.child_core.specs.Knows.{Knows, Admits}
 use Rattle.child_core.specs.Walk.{MayAct, Walk, walked, Deserved}
 use Rattle.child_core.specs.Laws.{IsStill}
 use Rattle.child_core.proofs.EndLaws.{Knows-walk, good_at_end}
-use Rattle.child_core.proofs.ActLaws.{and_false, piece_rest, piece_is, due_filled, given_feed, given_input, given_kill, given_release, walked-append, walked-acting, acted-rest, acted-deserved}
+use Rattle.child_core.proofs.ActLaws.{and_false, piece_rest, piece_is, given_feed, given_input, given_kill, given_release, walked-append, walked-acting, acted-rest, acted-deserved}
 
 module _ (early : Bool) (s : Setting) (still : IsStill s) where
   act_with : (v : View) (L : List Item) (a : Act) → Knows early s v L → is_start v.number (Out a) ≡ false → (is_want_child v.number (Out a) ≡ true → v.asked ≡ false) →
@@ -45,7 +45,7 @@ module _ (early : Bool) (s : Setting) (still : IsStill s) where
     talk = λ w. ap (λ o. o.whole) (still L a) ∙ k.talk w;
   }
 
-  may_feed : (v : View) (L : List Item) → Knows early s v L → is_feed_due v ≡ true → MayAct early s v L (Feed v.number (piece_of v))
+  pub may_feed : (v : View) (L : List Item) → Knows early s v L → is_feed_due v ≡ true → MayAct early s v L (Feed v.number (piece_of v))
   may_feed v L k due =
       let p = and_parts (v.started && not (is_some v.outcome) && not v.exited && not v.input_ended && is_filled v.unfed) (v.untaken == 0) due in
       let q = and_parts (v.started && not (is_some v.outcome) && not v.exited && not v.input_ended) (is_filled v.unfed) p.0 in
@@ -62,7 +62,7 @@ module _ (early : Bool) (s : Setting) (still : IsStill s) where
         release = λ e. absurd (cc);
       }
 
-  may_end : (v : View) (L : List Item) → Knows early s v L → is_input_due v ≡ true → MayAct early s v L (EndInput v.number)
+  pub may_end : (v : View) (L : List Item) → Knows early s v L → is_input_due v ≡ true → MayAct early s v L (EndInput v.number)
   may_end v L k due =
       let p = and_parts (wants_input_end v) (not v.input_ended) due in
       record {
@@ -72,7 +72,7 @@ module _ (early : Bool) (s : Setting) (still : IsStill s) where
         release = λ e. absurd (cc);
       }
 
-  may_kill : (v : View) (L : List Item) → Knows early s v L → is_kill_due v ≡ true → MayAct early s v L (Kill v.number)
+  pub may_kill : (v : View) (L : List Item) → Knows early s v L → is_kill_due v ≡ true → MayAct early s v L (Kill v.number)
   may_kill v L k due = record {
     admits = act_with v L (Kill v.number) k refl (λ e. absurd (cc)) (λ e. absurd (cc)) refl (λ ws e. absurd (cc)) (λ e. absurd (cc));
     input = λ e. absurd (cc);
@@ -80,7 +80,7 @@ module _ (early : Bool) (s : Setting) (still : IsStill s) where
     release = λ e. absurd (cc);
   }
 
-  may_release : (v : View) (L : List Item) → Knows early s v L → is_release_due v ≡ true → MayAct early s v L (Release v.number)
+  pub may_release : (v : View) (L : List Item) → Knows early s v L → is_release_due v ≡ true → MayAct early s v L (Release v.number)
   may_release v L k due = record {
     admits = act_with v L (Release v.number) k refl (λ e. absurd (cc)) (λ e. absurd (cc)) refl (λ ws e. absurd (cc)) (λ e. absurd (cc));
     input = λ e. absurd (cc);
@@ -88,7 +88,7 @@ module _ (early : Bool) (s : Setting) (still : IsStill s) where
     release = λ _. not-true _ (and_parts (wants_release v) (not v.output_ended) due).1;
   }
 
-  may_ask : (may : Bool) (v : View) (L : List Item) → Knows early s v L → is_ask_due may v ≡ true → MayAct early s v L (WantChild v.number)
+  pub may_ask : (may : Bool) (v : View) (L : List Item) → Knows early s v L → is_ask_due may v ≡ true → MayAct early s v L (WantChild v.number)
   may_ask may v L k due = record {
     admits = act_with v L (WantChild v.number) k refl (λ _. not-true _ (and_parts (wants_output may v) (not v.asked) due).1) (λ e. absurd (cc)) refl (λ ws e. absurd (cc)) (λ e. absurd (cc));
     input = λ e. absurd (cc);
@@ -100,7 +100,7 @@ module _ (early : Bool) (s : Setting) (still : IsStill s) where
   walk_when v L true a f = (f refl, tt)
   walk_when v L false a f = tt
 
-  walk_append : (v : View) (L : List Item) (xs ys : List Act) → Walk early s v L xs → Walk early s (walked s v xs) (L ++ map Out xs) ys → Walk early s v L (xs ++ ys)
+  pub walk_append : (v : View) (L : List Item) (xs ys : List Act) → Walk early s v L xs → Walk early s (walked s v xs) (L ++ map Out xs) ys → Walk early s v L (xs ++ ys)
   walk_append v L [] ys p q = subst (λ l. Walk early s v l ys) (append-nil L) q
   walk_append v L (a ∷ xs) ys p q =
       (p.0, walk_append (noted s.conn v plain (Out a)) (L ++ Out a ∷ []) xs ys p.1 (subst (λ l. Walk early s (walked s v (a ∷ xs)) l ys) (sym (append_assoc L (Out a ∷ []) (map Out xs))) q))

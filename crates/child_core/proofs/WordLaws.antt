@@ -1,18 +1,17 @@
 -- Small laws: tests that name a child, and words that leave the old value.
-use Rattle.std.proofs.Common.{◌≡◌, ℕ, zero, suc, ◌+◌, ◌-◌, List, [], ◌∷◌, ◌++◌, Bool, true, false, ◌||◌, ◌&&◌, refl, sym, ◌∙◌, ap, append-nil, arith, Option, Some, None, add-zero, length, drop, inl, inr}
-use Rattle.std.specs.Prelude.{if◌then◌else◌, count_by, ◌==◌, not, ◌⊎◌, sum_by}
-use Rattle.std.specs.List.{flat_map, list_any, fold}
-use Rattle.std.proofs.lemmas.Bool.{or_parts, false≢true, or_left, or_right}
-use Rattle.host_trace.specs.declared.items.Event.{Event}
+use Rattle.std.proofs.Common.{◌≡◌, ℕ, zero, suc, ◌+◌, ◌-◌, List, [], ◌∷◌, ◌++◌, Bool, true, false, ◌||◌, refl, sym, ◌∙◌, ap, append-nil, arith, add-zero, length, inl, inr}
+use Rattle.std.specs.Prelude.{if◌then◌else◌, count_by, ◌==◌, ◌⊎◌}
+use Rattle.std.specs.List.{list_any, fold}
+use Rattle.std.proofs.lemmas.Bool.{or_parts, or_left, or_right}
 use Rattle.host_trace.specs.declared.items.Event.TheVariants.{Started, StartFailed, StartFull, ChildBytes, ChildEof, ChildBroken, Took, InputGone, Exited}
 use Rattle.host_trace.specs.declared.items.Act.TheVariants.{Start, Feed, EndInput, Kill, Release, WantChild}
 use Rattle.host_trace.specs.declared.items.Item.{Item}
 use Rattle.host_trace.specs.declared.items.Item.TheVariants.{In, Out}
 use Rattle.host_trace.specs.First.{since}
-use Rattle.host_trace.specs.Kinds.{is_start, is_started, is_start_answer, is_exited, is_input_end, is_output_end, is_kill, is_want_child, is_child_answer, is_child_bytes, is_child_eof, is_feed, is_end_input, output_heard, input_fed, count_took, names_child}
+use Rattle.host_trace.specs.Kinds.{is_start, is_started, is_start_answer, is_exited, is_input_end, is_output_end, is_kill, is_want_child, is_child_answer, is_child_eof, is_feed, is_end_input, output_heard, input_fed, count_took, names_child}
 use Rattle.host_trace.specs.Account.{is_refusal}
 use Rattle.host_trace.proofs.FirstLaws.{list_any-push, count_by-push, since-push}
-use Rattle.child_core.specs.View.{asked_by, ticked, more_if, without, more_by, less_by}
+use Rattle.child_core.specs.View.{asked_by, ticked, more_if, more_by, less_by}
 use Rattle.child_core.specs.Knows.{one_if}
 
 pub tells : (b : Bool) → (b ≡ true) ⊎ (b ≡ false)

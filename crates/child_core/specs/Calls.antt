@@ -1,5 +1,5 @@
 -- What the calls of a run make of it.
-use Rattle.std.specs.Prelude.{ℕ, Bool, true, false, not, ◌||◌, ◌&&◌, ◌==◌, ◌++◌, nat_le, List, [], Option, Some, None, is_some}
+use Rattle.std.specs.Prelude.{ℕ, Bool, true, false, not, ◌||◌, ◌&&◌, ◌==◌, nat_le, List, [], Some, is_some}
 use Rattle.host_base.specs.declared.cause.Cause.TheVariants.{Incomplete as IncompleteCause}
 use Rattle.host_trace.specs.declared.items.Event.{Event}
 use Rattle.host_trace.specs.declared.items.Event.TheVariants.{Started, StartFailed, StartFull, ChildBytes, ChildEof, ChildBroken, Took, InputGone, Exited, Tick, Stop}
@@ -120,3 +120,11 @@ is_settled v = v.refused || v.exited && v.input_ended && v.output_ended
 -- it takes more of its client
 abbrev pub wants_more : View → Bool
 wants_more v = v.untaken == 0 || is_websocket v.kind && (v.input_ended || v.exited)
+
+-- bytes that are offered will be fed
+abbrev pub takes_input : View → Bool
+takes_input v = not (is_some v.outcome || v.input_ended || v.exited || v.whole)
+
+-- a text may be heard for a WebSocket's program: it was started, and wants more
+abbrev pub wants_text : View → Bool
+wants_text v = v.started && wants_more v

@@ -5,3 +5,6 @@ pub mod Setting
 pub mod Knows
 pub mod Walk
 pub mod Laws
+pub mod Tells
+pub mod Output
+pub mod Memory

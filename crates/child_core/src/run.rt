@@ -49,7 +49,7 @@ impl Run {
     ghost use Rattle.std.specs.Prelude.{◌≡◌, true, false, None, is_ok, IsErr, OnOk, OnErr};
     ghost use Rattle.host_trace.specs.Decider.{is_websocket};
     ghost use Rattle.child_core.specs.View.{begun, drops_output};
-    ghost use Rattle.child_core.specs.Calls.{heard, is_kept, fits_run, offered, decided, refused, ended, closed, drained, is_settled, wants_more};
+    ghost use Rattle.child_core.specs.Calls.{heard, is_kept, fits_run, offered, decided, refused, ended, closed, drained, is_settled, wants_more, takes_input, wants_text};
     ghost use Rattle.child_core.specs.declared.ending.Outcome.TheVariants.{Failed};
     ghost use Rattle.host_trace.specs.declared.items.Event.TheVariants.{Tick, ChildBytes, ChildEof, ChildBroken};
 
@@ -248,6 +248,20 @@ impl Run {
         Ok(())
     }
 
+    /// The child's number.
+    pub fn number(&self) -> u64
+        ensures { result ≡ self.now.number }
+    {
+        self.number
+    }
+
+    /// Whether all that is to be fed was offered; false for a run that is decided.
+    pub fn is_offered_whole(&self) -> bool
+        ensures { result ≡ self.now.whole }
+    {
+        self.whole
+    }
+
     /// Ends the run for a reason of its connection, and gives no act. An outcome that stands is not changed. No Feed
     /// is due afterwards. It takes no memory.
     pub fn end_by(&mut self, end: Ending)
@@ -315,5 +329,29 @@ impl Run {
     {
         let talks = self.kind == ScriptKind::WebSocket;
         self.untaken == 0 || talks && (self.input_ended || self.exited)
+    }
+
+    /// Whether it is the run of a WebSocket's program.
+    pub fn is_websocket(&self) -> bool
+        ensures { result ≡ is_websocket self.now.kind }
+    {
+        self.kind == ScriptKind::WebSocket
+    }
+
+    /// Whether bytes that are offered will be fed: nothing decided the run, its input has not ended, its child has not
+    /// exited, and not all was offered.
+    pub fn takes_input(&self) -> bool
+        ensures { result ≡ takes_input self.now }
+    {
+        let decided = self.outcome.is_some();
+        !(decided || self.input_ended || self.exited || self.whole)
+    }
+
+    /// For a WebSocket's program: whether a text of its client may be heard for it. It was started, and wants more.
+    pub fn wants_text(&self) -> bool
+        ensures { result ≡ wants_text self.now }
+    {
+        let wants = self.wants_more();
+        self.started && wants
     }
 }

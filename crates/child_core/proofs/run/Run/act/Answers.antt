@@ -1,7 +1,7 @@
 -- The acts of the child, one after another.
 use Rattle.std.proofs.Common.{◌∙◌, ap}
 use Rattle.host_trace.proofs.AddsLaws.{Adds-trans}
-use Rattle.child_core.specs.Due.{acted, acting, feeding, feed_given, input_given, kill_given, release_given, ask_given}
+use Rattle.child_core.specs.Due.{acted, acting, input_given, kill_given, release_given, ask_given}
 use Rattle.child_core.proofs.run.Run.act.Goals as goal
 
 pub returns-clause-run : goal.returns-clause-run
