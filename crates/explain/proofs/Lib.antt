@@ -1,0 +1,5 @@
+pub mod EventLaws
+pub mod HearLaws
+pub mod StartLaws
+pub mod TextLaws
+pub mod TurnLaws

@@ -1,0 +1,4 @@
+pub mod Explanation
+pub mod Inputs
+pub mod Explained
+pub mod Steps
