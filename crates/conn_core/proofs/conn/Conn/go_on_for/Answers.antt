@@ -1,0 +1,15 @@
+use Rattle.std.proofs.Common.{refl, sym, subst, ◌∙◌, ◌≡◌}
+use Rattle.host_base.specs.declared.site.Site.{Site}
+use Rattle.host_base.specs.SiteRules.{IsServed}
+use Rattle.conn_core.specs.Kept.{site_of}
+use Rattle.conn_core.proofs.GaveLaws.{gave_after, gave_before, gave_then}
+use Rattle.conn_core.proofs.conn.Conn.go_on_for.Goals as goal
+
+pub loop-turn-preserved : goal.loop-turn-preserved
+loop-turn-preserved g c = record {
+  gave = gave_then c.loop-turn.invariant.gave c.go_on.ensures.gave;
+  limit = c.go_on.ensures.limit ∙ c.loop-turn.invariant.limit;
+}
+
+pub returns-else-not-may_go_on-clause-gave : goal.returns-else-not-may_go_on-clause-gave
+returns-else-not-may_go_on-clause-gave g c = gave_then c.loop-turn.invariant.gave c.go_on.ensures.gave

@@ -1,0 +1,13 @@
+use Rattle.std.proofs.Common.{refl, sym, subst, ◌∙◌, ◌≡◌}
+use Rattle.host_base.specs.declared.site.Site.{Site}
+use Rattle.host_base.specs.SiteRules.{IsServed}
+use Rattle.conn_core.specs.Kept.{site_of}
+use Rattle.conn_core.proofs.GaveLaws.{gave_after, gave_before, gave_then}
+use Rattle.conn_core.proofs.conn.Conn.serve.Goals as goal
+
+pub go_on_for-requires-clause-served : goal.go_on_for-requires-clause-served
+go_on_for-requires-clause-served g c =
+    subst IsServed (sym ((c.handle.ensures.gave c.answer.new.children).site ∙ c.answer.ensures.gave.site)) c.requires.served
+
+pub returns-clause-gave : goal.returns-clause-gave
+returns-clause-gave g c = gave_then c.answer.ensures.gave (gave_then (c.handle.ensures.gave c.answer.new.children) c.go_on_for.ensures.gave)

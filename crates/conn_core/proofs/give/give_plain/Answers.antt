@@ -1,0 +1,5 @@
+use Rattle.std.proofs.Common.{◌≡◌}
+use Rattle.conn_core.proofs.give.give_plain.Goals as goal
+
+pub returns-clause-told : goal.returns-clause-told
+returns-clause-told g c = rw (c.act.ensures.room c.requires) at c.act.ensures.told

@@ -1,0 +1,228 @@
+// What is to be written of an answer.
+ghost use Rattle.std.specs.Prelude.{◌≡◌, IfOk, option_map};
+ghost use Rattle.reply_writer.specs.WholeRules.{IsStamp};
+
+use crate::conn::Conn;
+use crate::stage::{Leg, Stage};
+use child_core::Outcome;
+use host_base::{Bytes, Cause, NoMemory, Request, ScriptKind};
+use reply_stream::Last;
+use reply_writer::{DateText, date_text, fault_reply, whole_text};
+use request_reader::redirected;
+use script_map::{is_local, redirect_target};
+use std::alloc::Global;
+use std::mem;
+
+fn date_of(now: Option<u64>) -> Option<DateText>
+    requires { IsStamp now }
+{
+    match now {
+        Some(secs) => Some(date_text(secs)),
+        None => None,
+    }
+}
+
+// The host's own reply for a cause.
+fn fault_text(
+    alloc: Global,
+    cause: Cause,
+    bare: bool,
+    closes: bool,
+    now: Option<u64>,
+) -> Result<Bytes, NoMemory>
+    requires { IsStamp now }
+{
+    let reply = fault_reply(alloc, cause)?;
+    let date = date_of(now);
+    whole_text(alloc, &reply, bare, closes, date.as_ref())
+}
+
+// The request of a local redirect (RFC 3875 6.2.2); nothing for a location that is none of a local redirect.
+fn request_of_hop(
+    alloc: Global,
+    request: &Request,
+    location: &Bytes,
+) -> Result<Option<Request>, NoMemory> {
+    if !is_local(location.as_slice()) {
+        return Ok(None);
+    }
+    let target = redirect_target(alloc, location.as_slice(), &request.target)?;
+    Ok(Some(redirected(alloc, request, target)?))
+}
+
+fn is_head(request: &Request) -> bool {
+    request.method.as_slice() == b"HEAD".as_slice()
+}
+
+impl<'s> Conn<'s> {
+    ghost use Rattle.std.specs.Prelude.{ℕ, ◌≡◌, IfOk};
+    ghost use Rattle.conn_core.specs.Kept.{Gave, Kept, site_of};
+    ghost use Rattle.reply_writer.specs.WholeRules.{IsStamp};
+
+    // Makes ready what is due of the exchange's answer.
+    pub(crate) fn ready_answer(&mut self, now: Option<u64>)
+        requires { IsStamp now }
+        ensures kept { Kept self.old self.new }
+    {
+        if self.is_ending() {
+            return;
+        }
+        match self.take_stage() {
+            Stage::Rejected { cause, bare } => self.ready_fault(cause, bare, true, now),
+            Stage::Interrupted(cause) => self.ready_broken(cause, now),
+            Stage::Running(leg) => self.ready_by_run(leg, now),
+            stage => self.put(stage),
+        }
+    }
+
+    // The host's own reply for a cause.
+    pub(crate) fn ready_fault(&mut self, cause: Cause, bare: bool, closes: bool, now: Option<u64>)
+        requires { IsStamp now }
+        ensures kept { Kept self.old self.new }
+    {
+        match fault_text(self.alloc, cause, bare, closes, now) {
+            Ok(text) => self.put(Stage::Finishing { text, closes }),
+            Err(NoMemory) => self.lose(),
+        }
+    }
+
+    fn ready_broken(&mut self, cause: Cause, now: Option<u64>)
+        requires { IsStamp now }
+        ensures kept { Kept self.old self.new }
+    {
+        match self.request.is_bare() {
+            Ok(bare) => self.ready_fault(cause, bare, true, now),
+            Err(NoMemory) => self.lose(),
+        }
+    }
+
+    // By what decided the run, or by what was heard of it.
+    fn ready_by_run(&mut self, leg: Leg, now: Option<u64>)
+        requires { IsStamp now }
+        ensures kept { Kept self.old self.new }
+    {
+        match self.outcome() {
+            None => self.ready_part(leg, now),
+            Some(Outcome::Output) => self.ready_last(leg, now),
+            Some(Outcome::Failed(cause)) => self.ready_failure(leg, cause, now),
+            Some(Outcome::Gone | Outcome::Stopped | Outcome::Dropped) => {}
+        }
+    }
+
+    fn outcome(&self) -> Option<Outcome> {
+        match &self.run {
+            None => None,
+            Some(run) => run.outcome(),
+        }
+    }
+
+    // Whether an answer of this leg's script that begins now closes the connection (RFC 9112 9.3 and 9.6).
+    fn closes_by(&self, kind: ScriptKind) -> bool {
+        kind == ScriptKind::Nph || !self.request.lets_persist()
+    }
+
+    // What came of a reply whose output goes on.
+    fn ready_part(&mut self, leg: Leg, now: Option<u64>)
+        requires { IsStamp now }
+        ensures kept { Kept self.old self.new }
+    {
+        let mut leg = leg;
+        let closes = self.closes_by(leg.kind);
+        if !leg.stream.has_begun() {
+            leg.closes = closes;
+        }
+        match self.next_text(&mut leg, closes, now) {
+            Ok(text) => {
+                leg.text = text;
+                self.put(Stage::Running(leg));
+            }
+            Err(NoMemory) => self.lose(),
+        }
+    }
+
+    // The output that was heard since.
+    fn next_piece(&mut self) -> Bytes
+        ensures kept { Kept self.old self.new }
+    {
+        match &mut self.run {
+            Some(run) => run.drain(),
+            None => Bytes::new(self.alloc),
+        }
+    }
+
+    // What is to be written of the output that was heard since, or because of a Tick.
+    fn next_text(
+        &mut self,
+        leg: &mut Leg,
+        closes: bool,
+        now: Option<u64>,
+    ) -> Result<Bytes, NoMemory>
+        requires { IsStamp now }
+        ensures kept { Kept self.old self.new }
+    {
+        let piece = self.next_piece();
+        if !piece.is_empty() {
+            return leg.stream.hear(piece, closes, now);
+        }
+        if leg.ticked {
+            leg.ticked = false;
+            return leg.stream.tick(closes, now);
+        }
+        Ok(Bytes::new(self.alloc))
+    }
+
+    // The output has ended.
+    fn ready_last(&mut self, leg: Leg, now: Option<u64>)
+        requires { IsStamp now }
+        ensures kept { Kept self.old self.new }
+    {
+        let closes_now = self.closes_by(leg.kind);
+        let closes = if leg.stream.has_begun() {
+            leg.closes
+        } else {
+            closes_now
+        };
+        let Leg {
+            hop,
+            request,
+            stream,
+            ..
+        } = leg;
+        match stream.end(closes_now, now) {
+            Ok(Last::Written(text)) => self.put(Stage::Finishing { text, closes }),
+            Ok(Last::Hop(location)) => self.hop(hop, &request, &location),
+            Ok(Last::Bad(cause)) => self.ready_fault(cause, is_head(&request), closes_now, now),
+            Err(NoMemory) => self.lose(),
+        }
+    }
+
+    // A local redirect.
+    fn hop(&mut self, hop: u32, request: &Request, location: &Bytes)
+        ensures kept { Kept self.old self.new }
+    {
+        if hop >= self.site.limits.redirects {
+            self.put(Stage::Refused(Cause::RedirectLoop));
+            return;
+        }
+        match request_of_hop(self.alloc, request, location) {
+            Ok(Some(request)) => self.put(Stage::Unstarted {
+                hop: hop + 1,
+                request,
+            }),
+            Ok(None) | Err(NoMemory) => self.lose(),
+        }
+    }
+
+    // The run failed for a cause: a reply that has begun can't be finished.
+    fn ready_failure(&mut self, leg: Leg, cause: Cause, now: Option<u64>)
+        requires { IsStamp now }
+        ensures kept { Kept self.old self.new }
+    {
+        if leg.stream.has_begun() {
+            self.cut = Some(cause);
+            return;
+        }
+        let closes = self.closes_by(leg.kind);
+        self.ready_fault(cause, is_head(&leg.request), closes, now);
+    }
+}

@@ -1,0 +1,138 @@
+// The acts of a step, exchange after exchange.
+use crate::conn::Conn;
+use crate::stage::Stage;
+use exchange_request::Found;
+use host_base::NoMemory;
+use host_trace::Outside;
+
+impl<'s> Conn<'s> {
+    ghost use Rattle.std.specs.Prelude.{ℕ, ◌≡◌, IfOk};
+    ghost use Rattle.conn_core.specs.Kept.{Gave, Kept, site_of};
+    ghost use Rattle.reply_writer.specs.WholeRules.{IsStamp};
+    ghost use Rattle.host_base.specs.SiteRules.{IsServed};
+    // Answers, handles the child, and begins whatever may begin.
+    pub(crate) fn serve<O: Outside>(&mut self, now: Option<u64>, children: &mut u64, out: &mut O)
+        requires stamp { IsStamp now }
+        requires served { IsServed (site_of self.old) }
+        ensures gave { Gave self.old children.old (O.trace out.old) self.new children.new (O.trace out.new) }
+        ensures limit { O.limit out.new ≡ O.limit out.old }
+    {
+        self.answer(now, children, out);
+        self.handle(out);
+        // each exchange that ends in the step takes a byte of the client
+        let most = self.request.kept_len();
+        self.go_on_for(most, now, children, out);
+    }
+
+    // Round after round, so many at most.
+    fn go_on_for<O: Outside>(
+        &mut self,
+        most: usize,
+        now: Option<u64>,
+        children: &mut u64,
+        out: &mut O,
+    )
+        requires stamp { IsStamp now }
+        requires served { IsServed (site_of self.old) }
+        ensures gave { Gave self.old children.old (O.trace out.old) self.new children.new (O.trace out.new) }
+        ensures limit { O.limit out.new ≡ O.limit out.old }
+    {
+        for _turn in 0..=most {
+            if !self.may_go_on() {
+                return;
+            }
+            self.go_on(now, children, out);
+        }
+    }
+
+    // Reads what came, and gives what is due of the answer.
+    fn answer<O: Outside>(&mut self, now: Option<u64>, children: &mut u64, out: &mut O)
+        requires stamp { IsStamp now }
+        ensures gave { Gave self.old children.old (O.trace out.old) self.new children.new (O.trace out.new) }
+        ensures limit { O.limit out.new ≡ O.limit out.old }
+    {
+        self.look();
+        self.let_continue(out);
+        self.ready_answer(now);
+        self.give(children, out);
+    }
+
+    // Looks for a request that can be served.
+    fn look(&mut self)
+        ensures kept { Kept self.old self.new }
+    {
+        if self.is_ending() || !self.is_unread() {
+            return;
+        }
+        match self.request.look() {
+            Ok(Found::More) => {}
+            Ok(Found::Ready(request)) => self.put(Stage::Unstarted { hop: 0, request }),
+            Ok(Found::Refused { cause, bare }) => self.put(Stage::Rejected { cause, bare }),
+            Err(NoMemory) => self.lose(),
+        }
+    }
+
+    // Gives the acts of the child.
+    fn handle<O: Outside>(&mut self, out: &mut O)
+        ensures gave { (n : ℕ) → Gave self.old n (O.trace out.old) self.new n (O.trace out.new) }
+        ensures limit { O.limit out.new ≡ O.limit out.old }
+    {
+        self.act_run_or_lose(out);
+        self.settle();
+    }
+
+    fn act_run_or_lose<O: Outside>(&mut self, out: &mut O)
+        ensures gave { (n : ℕ) → Gave self.old n (O.trace out.old) self.new n (O.trace out.new) }
+        ensures limit { O.limit out.new ≡ O.limit out.old }
+    {
+        if self.act_run(out) {
+            return;
+        }
+        self.lose();
+        let _acted = self.act_run(out);
+    }
+
+    fn act_run<O: Outside>(&mut self, out: &mut O) -> bool
+        ensures gave { (n : ℕ) → Gave self.old n (O.trace out.old) self.new n (O.trace out.new) }
+        ensures limit { O.limit out.new ≡ O.limit out.old }
+    {
+        let may_want = self.has_room();
+        match &mut self.run {
+            None => true,
+            Some(run) => run.act(may_want, out).is_ok(),
+        }
+    }
+
+    // The request is being read, and bytes came that nobody has looked at.
+    fn is_unread(&self) -> bool {
+        matches!(self.stage, Stage::Reading) && self.request.is_fresh()
+    }
+
+    // A hop may begin, or what was found on the way to it be answered.
+    fn has_turn(&self) -> bool {
+        !self.is_ending() && self.is_settled() && self.has_room()
+    }
+
+    // More can be done for the exchange in this step.
+    fn may_go_on(&self) -> bool {
+        match &self.stage {
+            Stage::Reading => !self.is_ending() && self.request.is_fresh(),
+            Stage::Refused(_) | Stage::Unstarted { .. } => self.has_turn(),
+            _ => false,
+        }
+    }
+
+    fn go_on<O: Outside>(&mut self, now: Option<u64>, children: &mut u64, out: &mut O)
+        requires stamp { IsStamp now }
+        requires served { IsServed (site_of self.old) }
+        ensures gave { Gave self.old children.old (O.trace out.old) self.new children.new (O.trace out.new) }
+        ensures limit { O.limit out.new ≡ O.limit out.old }
+    {
+        self.answer(now, children, out);
+        if !self.has_turn() {
+            return;
+        }
+        self.ready_hop(now);
+        self.give(children, out);
+    }
+}

@@ -1,0 +1,72 @@
+// Each act that may find no room finds none, in turn: the connection is shut for want of memory in that step, and
+// nothing but the end of its child follows.
+ghost use Rattle.host_base.specs.SiteRules.{IsServed};
+
+use super::play::{Row, SITE, record};
+use super::{replies, requests};
+use host_base::{NoMemory, Site};
+use site_file::read_site;
+use std::alloc::Global;
+use std::test::Fail;
+
+fn may_follow(line: &str) -> bool {
+    line.is_empty()
+        || line == "--"
+        || line.starts_with("EndInput")
+        || line.starts_with("Kill")
+        || line.starts_with("Release")
+}
+
+// The connection was shut for want of memory, once.
+fn is_shut(log: &str) -> bool {
+    let mut shut = false;
+    for line in log.split('\n') {
+        if shut && !may_follow(line) {
+            return false;
+        }
+        if line == "Shut NoMemory" {
+            shut = true;
+        }
+    }
+    shut
+}
+
+// The number of the first refused act after which a row goes on.
+fn goes_on(alloc: Global, site: &Site, row: &Row, count: u32) -> Result<Option<u32>, NoMemory>
+    requires { IsServed site.now }
+{
+    for at in 0..count {
+        let out = record(alloc, site, row, false, Some(at))?;
+        if !is_shut(out.log.as_str()) {
+            return Ok(Some(at));
+        }
+    }
+    Ok(None)
+}
+
+// The first row that goes on; nothing where there is none.
+fn wrong(alloc: Global, site: &Site, rows: &[Row]) -> Result<&'static str, NoMemory>
+    requires { IsServed site.now }
+{
+    for row in rows {
+        let whole = record(alloc, site, row, false, None)?;
+        if goes_on(alloc, site, row, whole.carried)?.is_some() {
+            return Ok(row.name);
+        }
+    }
+    Ok("")
+}
+
+#[test]
+fn each_act_may_find_no_room(rt: HostRuntime) -> Result<(), Fail> {
+    let alloc = rt.alloc();
+    let Ok(site) = read_site(alloc, SITE.as_bytes()) else {
+        assert!(rt; false);
+        return Ok(());
+    };
+    let said = wrong(alloc, &site, replies::ROWS.as_slice())?;
+    assert_eq!(rt; said, "");
+    let said = wrong(alloc, &site, requests::ROWS.as_slice())?;
+    assert_eq!(rt; said, "");
+    Ok(())
+}

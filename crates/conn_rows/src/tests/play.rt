@@ -1,0 +1,291 @@
+// A row: a site's scripts, and what is heard with the acts that follow.
+ghost use Rattle.std.specs.Prelude.{◌≡◌};
+ghost use Rattle.host_base.specs.SiteRules.{IsServed};
+ghost use Rattle.reply_writer.specs.WholeRules.{IsStamp};
+
+use super::recorder::Recorder;
+use conn_core::Conn;
+use host_base::{Bytes, NoMemory, Peer, Site, Text};
+use host_trace::Event;
+use reply_writer::DATES_END;
+use site_file::read_site;
+use std::alloc::Global;
+
+#[derive(Clone, Copy)]
+pub enum Heard {
+    Accept,
+    Client(&'static str),
+    // So many bytes of one kind.
+    Fill(u8, usize),
+    End,
+    Gone,
+    Wrote(u64),
+    Started(u64),
+    StartFailed(u64),
+    StartFull(u64, u32),
+    Out(u64, &'static str),
+    OutEnd(u64),
+    OutBroken(u64),
+    // So much output of one byte, behind a front.
+    OutFill(u64, &'static str, usize),
+    Took(u64, u64),
+    InGone(u64),
+    Exited(u64),
+    Tick(u64),
+    Ticks(u32),
+    NoRoom,
+    Stop,
+}
+
+use Heard::{
+    Accept, Client, End, Exited, Fill, Gone, InGone, NoRoom, Out, OutBroken, OutEnd, OutFill,
+    StartFailed, StartFull, Started, Stop, Tick, Ticks, Took, Wrote,
+};
+
+// What is heard, and the acts that follow.
+pub type Beat = (Heard, &'static [&'static str]);
+
+pub struct Row {
+    pub name: &'static str,
+    pub beats: &'static [Beat],
+}
+
+pub const SITE: &str = "version = 1
+[limits]
+body = 1048576
+
+[[script]]
+path = \"/cgi-bin/hello\"
+program = \"/srv/cgi/hello\"
+
+[[script]]
+path = \"/cgi-bin/form\"
+program = \"/srv/cgi/form\"
+
+[[script]]
+path = \"/nph\"
+program = \"/srv/cgi/nph\"
+kind = \"nph\"
+
+[[script]]
+path = \"/ws\"
+program = \"/srv/cgi/lines\"
+kind = \"websocket\"
+";
+
+// What is heard, step by step; nothing stands where the acts of a beat are to be marked off.
+#[derive(Drop)]
+pub struct Script {
+    pub alloc: Global,
+    pub events: Vec<Option<Event>>,
+    // What comes, comes in single bytes.
+    pub single: bool,
+}
+
+// What the clock shows, where a date can name it.
+fn stamp_of(clock: Option<u64>) -> Option<u64>
+    ensures { IsStamp result }
+{
+    match clock {
+        Some(secs) if secs < DATES_END => Some(secs),
+        _ => None,
+    }
+}
+
+fn secs_of(event: &Event, clock: Option<u64>) -> Option<u64> {
+    match event {
+        Event::Tick { secs } => Some(*secs),
+        _ => clock,
+    }
+}
+
+fn filled(alloc: Global, front: &str, byte: u8, count: usize) -> Result<Bytes, NoMemory> {
+    let mut bytes = Bytes::from_slice(alloc, front.as_bytes())?;
+    for _ in 0..count {
+        bytes.push(byte)?;
+    }
+    Ok(bytes)
+}
+
+fn client_event(alloc: Global, heard: Heard) -> Result<Event, NoMemory> {
+    Ok(match heard {
+        Accept => Event::Accepted {
+            peer: Peer(Text::copy_of(alloc, "192.0.2.1")?),
+        },
+        Client(text) => Event::ClientBytes {
+            c: 0,
+            bytes: Bytes::from_slice(alloc, text.as_bytes())?,
+        },
+        Fill(byte, count) => Event::ClientBytes {
+            c: 0,
+            bytes: filled(alloc, "", byte, count)?,
+        },
+        End => Event::ClientEof { c: 0 },
+        Gone => Event::ClientGone { c: 0 },
+        Wrote(n) => Event::Wrote { c: 0, n },
+        NoRoom => Event::NoRoom { c: 0 },
+        Tick(secs) => Event::Tick { secs },
+        _ => Event::Stop,
+    })
+}
+
+fn child_event(alloc: Global, heard: Heard) -> Result<Option<Event>, NoMemory> {
+    Ok(match heard {
+        Started(k) => Some(Event::Started { k }),
+        StartFailed(k) => Some(Event::StartFailed { k }),
+        StartFull(k, seen) => Some(Event::StartFull { k, seen }),
+        Out(k, text) => Some(Event::ChildBytes {
+            k,
+            bytes: Bytes::from_slice(alloc, text.as_bytes())?,
+        }),
+        OutFill(k, front, count) => Some(Event::ChildBytes {
+            k,
+            bytes: filled(alloc, front, b'a', count)?,
+        }),
+        OutEnd(k) => Some(Event::ChildEof { k }),
+        OutBroken(k) => Some(Event::ChildBroken { k }),
+        Took(k, n) => Some(Event::Took { k, n }),
+        InGone(k) => Some(Event::InputGone { k }),
+        Exited(k) => Some(Event::Exited { k }),
+        _ => None,
+    })
+}
+
+impl Script {
+    pub fn new(alloc: Global, single: bool) -> Self {
+        Script {
+            alloc,
+            events: Vec::new(alloc),
+            single,
+        }
+    }
+
+    fn add(&mut self, event: Event) -> Result<(), NoMemory> {
+        self.events.push(Some(event))?;
+        Ok(())
+    }
+
+    // The beat ends.
+    pub fn mark(&mut self) -> Result<(), NoMemory> {
+        self.events.push(None)?;
+        Ok(())
+    }
+
+    // The bytes one by one.
+    fn hear_bytes(&mut self, child: Option<u64>, text: &str) -> Result<(), NoMemory> {
+        for byte in text.as_bytes() {
+            let bytes = Bytes::from_slice(self.alloc, &[*byte])?;
+            match child {
+                None => self.add(Event::ClientBytes { c: 0, bytes })?,
+                Some(k) => self.add(Event::ChildBytes { k, bytes })?,
+            }
+        }
+        Ok(())
+    }
+
+    pub fn hear(&mut self, heard: Heard) -> Result<(), NoMemory> {
+        match heard {
+            Client(text) if self.single => self.hear_bytes(None, text),
+            Out(k, text) if self.single => self.hear_bytes(Some(k), text),
+            Ticks(count) => self.hear_ticks(count),
+            _ => self.hear_whole(heard),
+        }
+    }
+
+    fn hear_ticks(&mut self, count: u32) -> Result<(), NoMemory> {
+        for _ in 0..count {
+            self.add(Event::Tick { secs: 0 })?;
+        }
+        Ok(())
+    }
+
+    fn hear_whole(&mut self, heard: Heard) -> Result<(), NoMemory> {
+        let event = match child_event(self.alloc, heard)? {
+            Some(event) => event,
+            None => client_event(self.alloc, heard)?,
+        };
+        self.add(event)
+    }
+
+    fn beats(&mut self, row: &Row) -> Result<(), NoMemory> {
+        for beat in row.beats {
+            self.hear(beat.0)?;
+            self.mark()?;
+        }
+        Ok(())
+    }
+}
+
+// Hands the events to a connection of the site, and hands out what was recorded.
+pub fn drive(alloc: Global, site: &Site, script: Script, refused: Option<u32>) -> Recorder
+    requires { IsServed site.now }
+{
+    let mut conn = Conn::new(alloc, site, 0);
+    let mut out = Recorder::new(alloc, refused);
+    let mut children = 0u64;
+    let mut clock = None;
+    let Script { events, .. } = script;
+    for event in events {
+        match event {
+            None => out.mark(),
+            Some(event) => {
+                clock = secs_of(&event, clock);
+                let _held = conn.step(event, stamp_of(clock), &mut children, &mut out);
+            }
+        }
+    }
+    out
+}
+
+// Plays a row in other pieces or with an act that finds no room.
+pub fn record(
+    alloc: Global,
+    site: &Site,
+    row: &Row,
+    single: bool,
+    refused: Option<u32>,
+) -> Result<Recorder, NoMemory>
+    requires { IsServed site.now }
+{
+    let mut script = Script::new(alloc, single);
+    script.beats(row)?;
+    Ok(drive(alloc, site, script, refused))
+}
+
+// The acts that are due, beat by beat.
+fn due(alloc: Global, row: &Row) -> Result<String, NoMemory> {
+    let mut text = String::new(alloc);
+    for beat in row.beats {
+        push_lines(&mut text, beat.1)?;
+        text.push_str("--\n")?;
+    }
+    Ok(text)
+}
+
+fn push_lines(text: &mut String, lines: &[&'static str]) -> Result<(), NoMemory> {
+    for line in lines {
+        text.push_str(*line)?;
+        text.push('\n')?;
+    }
+    Ok(())
+}
+
+// What a row does, where that is not what it must; nothing where it is.
+fn play_at(alloc: Global, site: &Site, row: &Row) -> Result<String, NoMemory>
+    requires { IsServed site.now }
+{
+    let out = record(alloc, site, row, false, None)?;
+    let due = due(alloc, row)?;
+    if out.log.as_str() == due.as_str() {
+        return Ok(String::new(alloc));
+    }
+    Ok(out.log)
+}
+
+// Plays a row, and says what it does where that is not what it must.
+pub fn run_row(alloc: Global, row: &Row) -> Result<String, NoMemory> {
+    match read_site(alloc, SITE.as_bytes()) {
+        Ok(site) => play_at(alloc, &site, row),
+        Err(_) => Ok(format!(in alloc; "no site")?),
+    }
+}

@@ -1,0 +1,137 @@
+// An outside that writes down what it is asked for, and tells no trace.
+ghost use Rattle.std.specs.Prelude.{None};
+
+use host_base::{Bytes, NoMemory};
+use host_trace::{Act, Acted, Event, Outside, Why};
+use std::alloc::Global;
+
+#[derive(Drop)]
+pub struct Recorder {
+    pub alloc: Global,
+    pub log: String,
+    // All bytes written.
+    pub wrote: Bytes,
+    // Acts that carry something, so far.
+    pub carried: u32,
+    // The one of them that finds no room.
+    pub refused: Option<u32>,
+    // No memory was found to write an act down.
+    pub failed: bool,
+}
+
+fn why_text(why: Why) -> &'static str {
+    match why {
+        Why::Done => "Done",
+        Why::Gone => "Gone",
+        Why::Cut(cause) => cause.text(),
+        Why::Idle => "Idle",
+        Why::Full => "Full",
+        Why::Stopped => "Stopped",
+        Why::NoMemory => "NoMemory",
+    }
+}
+
+fn bytes_text(alloc: Global, bytes: &Bytes) -> Result<String, NoMemory> {
+    let text = String::from_utf8_lossy(alloc, bytes.as_slice())?;
+    Ok(String::from_str(alloc, text.as_str())?)
+}
+
+impl Recorder {
+    pub fn new(alloc: Global, refused: Option<u32>) -> Self {
+        Recorder {
+            alloc,
+            log: String::new(alloc),
+            wrote: Bytes::new(alloc),
+            carried: 0,
+            refused,
+            failed: false,
+        }
+    }
+
+    fn line(&mut self, text: String) -> Result<(), NoMemory> {
+        self.log.push_str(text.as_str())?;
+        self.log.push('\n')?;
+        Ok(())
+    }
+
+    // A beat ends.
+    pub fn mark(&mut self) {
+        if self.log.push_str("--\n").is_err() {
+            self.failed = true;
+        }
+    }
+
+    fn refuses(&mut self) -> bool {
+        let at = self.carried;
+        self.carried = at.saturating_add(1);
+        self.refused == Some(at)
+    }
+
+    fn note(&mut self, act: &Act) -> Result<(), NoMemory> {
+        let alloc = self.alloc;
+        match act {
+            Act::WantClient { .. } => self.line(format!(in alloc; "WantClient")?),
+            Act::Write { bytes, .. } => {
+                self.wrote.extend_from_slice(bytes.as_slice())?;
+                let text = bytes_text(alloc, bytes)?;
+                self.line(format!(in alloc; "Write {}", text.as_str())?)
+            }
+            Act::Shut { why, .. } => self.line(format!(in alloc; "Shut {}", why_text(*why))?),
+            Act::Start {
+                k,
+                j,
+                hop,
+                launch,
+                ..
+            } => {
+                self.line(format!(in alloc;
+                    "Start {} {} {} {}",
+                    *k,
+                    *j,
+                    *hop,
+                    launch.program.as_str()
+                )?)
+            }
+            Act::Feed { k, bytes } => self.line(format!(in alloc; "Feed {} {}", *k, bytes.len())?),
+            Act::EndInput { k } => self.line(format!(in alloc; "EndInput {}", *k)?),
+            Act::WantChild { k } => self.line(format!(in alloc; "WantChild {}", *k)?),
+            Act::Kill { k } => self.line(format!(in alloc; "Kill {}", *k)?),
+            Act::Release { k } => self.line(format!(in alloc; "Release {}", *k)?),
+            Act::Upgrade { .. } | Act::Says { .. } | Act::CloseWs { .. } => {
+                self.line(format!(in alloc; "WebSocket")?)
+            }
+        }
+    }
+}
+
+impl Outside for Recorder {
+    ghost trace = { λ o. None };
+
+    ghost faults = { λ o. 0 };
+
+    ghost full_books = { λ o. 0 };
+
+    ghost limit = { λ o. 64 };
+
+    fn next(&mut self) -> Event {
+        Event::Stop
+    }
+
+    fn act(&mut self, act: &Act) -> Acted {
+        let carries = matches!(
+            act,
+            Act::Write { .. }
+                | Act::Start { .. }
+                | Act::Feed { .. }
+                | Act::Upgrade { .. }
+                | Act::Says { .. }
+        );
+        if carries && self.refuses() {
+            return Acted::NoRoom;
+        }
+        if self.note(act).is_err() {
+            self.failed = true;
+        }
+        Acted::Done
+    }
+}

@@ -1,0 +1,3 @@
+pub mod Manner
+pub mod Due
+pub mod Knows

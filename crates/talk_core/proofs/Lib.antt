@@ -1,0 +1,10 @@
+pub mod LineLaws
+pub mod NoteLaws
+pub mod ItemLaws
+pub mod HearLaws
+pub mod GiveLaws
+pub mod PartLaws
+pub mod BeginLaws
+pub mod AlikeLaws
+pub mod WalkLaws
+pub mod WantLaws

@@ -1,0 +1,5 @@
+-- An act that carries nothing is done.
+use Rattle.talk_core.proofs.acts.give_plain.Goals as goal
+
+pub returns-clause-told : goal.returns-clause-told
+returns-clause-told g c = rw (c.act.ensures.room c.requires) at c.act.ensures.told
