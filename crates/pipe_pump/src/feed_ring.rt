@@ -26,6 +26,16 @@ pub struct Source {
     parker: Parker,
 }
 
+/// What there is for a pump to do, as far as its end of the ring knows after a look.
+#[derive(Clone, Copy, Debug, PartialEq, Eq)]
+pub enum FeedLook {
+    /// No byte stands in the ring, and the feed may go on.
+    Nothing,
+    Bytes,
+    /// The feed was ended, and no byte stands in the ring.
+    Ended,
+}
+
 /// A ring with room for `size` bytes: the end of the loop, and the end of a pump to a pipe.
 pub fn feed_rings(alloc: Global, size: usize) -> Result<(Feeder, FeedRing), NoMemory>
     requires { 0 < size }
@@ -71,6 +81,26 @@ fn hand_ring(
 }
 
 impl FeedRing {
+    ghost use Rattle.std.specs.Prelude.{◌≡◌, ◌<◌, ◌↔◌, ◌≢◌, [], length};
+    ghost use Rattle.rtrb.specs.Ring.{known_items};
+    ghost use Rattle.pipe_pump.specs.Rings.{IsFreshFeed};
+
+    /// Looks whether there is anything for a pump to do. Once a feed was ended all of its bytes are seen.
+    pub fn look(&mut self) -> FeedLook
+        ensures fresh { IsFreshFeed self.old → IsFreshFeed self.new }
+        ensures bytes { (result ≡ FeedLook.Bytes) ↔ (0 < length (known_items self.new.source.consumer)) }
+        ensures ended { result ≡ FeedLook.Ended → 0 < length (known_items self.new.hand) }
+    {
+        let is_ended = self.hand.slots() > 0;
+        if self.source.consumer.slots() > 0 {
+            FeedLook::Bytes
+        } else if is_ended {
+            FeedLook::Ended
+        } else {
+            FeedLook::Nothing
+        }
+    }
+
     pub(crate) fn parts(self) -> (Consumer<u8>, Consumer<Hand, Global, OneRing>, Parker)
         ensures consumer { result.0 ≡ self.source.consumer }
         ensures hand { result.1 ≡ self.hand }

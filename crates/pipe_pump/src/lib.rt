@@ -14,7 +14,7 @@ mod tap;
 mod to_pipe;
 
 pub use ends::{PumpDone, PumpEnd, RingEnd};
-pub use feed_ring::{FeedRing, feed_rings};
+pub use feed_ring::{FeedLook, FeedRing, feed_rings};
 pub use feeder::Feeder;
 pub use from_pipe::{PumpRing, pump_out, rings};
 pub use laws::{feeds_arrive_in_order, pipes_keep_their_bytes};

@@ -1,0 +1,4 @@
+pub mod Hands
+pub mod Pumped
+pub mod Pumps
+pub mod Workers

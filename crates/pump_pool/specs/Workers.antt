@@ -1,0 +1,18 @@
+-- Words on a worker and the place of its thread.
+use Rattle.std.specs.Prelude.{List}
+use Rattle.rtrb.specs.Ring.{sent, IsPair}
+use Rattle.pump_pool.specs.declared.worker.Worker.{Worker}
+use Rattle.pump_pool.specs.declared.worker.Busy.{Busy}
+use Rattle.pump_pool.specs.declared.worker.Station.{Station}
+
+module _ {J : Type 0} where
+  -- all jobs that a thread was given
+  abbrev pub given : Worker J → List J
+  given worker = sent worker.reins.jobs
+
+  abbrev pub given_to : Busy J → List J
+  given_to busy = sent busy.reins.jobs
+
+  -- the jobs of this worker come in here
+  abbrev pub IsPlaceOf : Station J → Worker J → Type 0
+  IsPlaceOf station worker = IsPair worker.reins.jobs station.jobs

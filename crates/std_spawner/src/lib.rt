@@ -1,0 +1,21 @@
+//! Real children: programs of the system, whose pipes are pumped by threads that are used again.
+#![tactic(auto)]
+
+mod bell;
+mod command;
+mod input;
+mod job;
+mod kid;
+mod pace;
+mod pipes;
+mod spawner;
+#[cfg(test)]
+mod tests;
+mod threads;
+
+pub use bell::Bell;
+pub use job::PumpJob;
+pub use kid::StdKid;
+pub use pipes::{ChildInput, ChildOutput};
+pub use spawner::StdSpawner;
+pub use threads::{StartThread, ThreadStarter};

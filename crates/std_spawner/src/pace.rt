@@ -1,0 +1,50 @@
+// When a child is asked for its exit.
+use std::time::{Clock, Duration};
+
+// The shortest and the longest distance between two asks.
+const LEAST: u64 = 1;
+
+const MOST: u64 = 100;
+
+/// While a child is at work it is asked once in the longest distance. Once it is to leave, it is asked at once,
+/// and then at distances that grow from the shortest to the longest.
+#[derive(Drop)]
+pub struct Pace {
+    is_leaving: bool,
+    /// Milliseconds.
+    distance: u64,
+    /// What the clock is to show before the next ask.
+    next: Duration,
+}
+
+impl Pace {
+    pub fn new() -> Self {
+        Pace {
+            is_leaving: false,
+            distance: MOST,
+            next: Duration::from_millis(0),
+        }
+    }
+
+    /// The child is to leave.
+    pub fn leave(&mut self) {
+        if !self.is_leaving {
+            self.is_leaving = true;
+            self.distance = LEAST;
+            self.next = Duration::from_millis(0);
+        }
+    }
+
+    /// Whether it is to be asked now. Where the clock doesn't tell, it is.
+    pub fn is_due<R: Clock>(&mut self, rt: &R) -> bool {
+        let Ok(now) = rt.monotonic() else {
+            return true;
+        };
+        if now < self.next {
+            return false;
+        }
+        self.next = now.saturating_add(Duration::from_millis(self.distance));
+        self.distance = self.distance.saturating_mul(2).min(MOST);
+        true
+    }
+}

@@ -1,0 +1,115 @@
+// Our ends of a child's pipes.
+ghost use Rattle.std.specs.Prelude.{◌≡◌, ◌<◌, ◌≤◌, IfSome, length};
+
+use super::bell::Bell;
+use pipe_pump::{PipeIn, PipeOut, PipeRead, PipeWrite};
+use std::io::{Read, Write};
+use std::process::{ChildStdin, ChildStdout};
+
+/// A child's output. It rings before it waits for more, where it gave bytes since it last rang.
+#[derive(Drop)]
+pub struct ChildOutput {
+    pipe: ChildStdout,
+    bell: Bell,
+    gave: bool,
+    faults: u64,
+}
+
+impl ChildOutput {
+    pub(crate) fn new(pipe: ChildStdout, bell: Bell) -> Self
+        ensures faults { result.faults ≡ 0 }
+    {
+        ChildOutput {
+            pipe,
+            bell,
+            gave: false,
+            faults: 0,
+        }
+    }
+}
+
+impl PipeIn for ChildOutput {
+    ghost use Rattle.std.specs.Prelude.{None};
+
+    ghost left = { λ _. None };
+
+    ghost faults = { λ pipe. pipe.faults };
+
+    fn read(&mut self, into: &mut [u8]) -> PipeRead {
+        if self.gave || into.is_empty() {
+            self.gave = false;
+            self.bell.ring();
+        }
+        if into.is_empty() {
+            return PipeRead::Bytes(0);
+        }
+        match self.pipe.read(into) {
+            Ok(0) => PipeRead::End,
+            Ok(count) => {
+                self.gave = true;
+                PipeRead::Bytes(count)
+            }
+            Err(_) => {
+                self.faults = self.faults.saturating_add(1);
+                PipeRead::Failed
+            }
+        }
+    }
+}
+
+/// A child's input, until it is closed. It rings where it is told that nothing is left for it.
+#[derive(Drop)]
+pub struct ChildInput {
+    pipe: Option<ChildStdin>,
+    bell: Bell,
+    faults: u64,
+}
+
+impl ChildInput {
+    pub(crate) fn new(pipe: ChildStdin, bell: Bell) -> Self
+        ensures faults { result.faults ≡ 0 }
+    {
+        ChildInput {
+            pipe: Some(pipe),
+            bell,
+            faults: 0,
+        }
+    }
+
+    // How many bytes it took, where it took any.
+    fn put(&mut self, from: &[u8]) -> Option<usize>
+        ensures within { IfSome result (λ count. (0 < count) × (count ≤ length from.now)) }
+        ensures faults { self.new.faults ≡ self.old.faults }
+    {
+        match self.pipe.as_mut()?.write(from) {
+            Ok(count) if count > 0 => Some(count),
+            _ => None,
+        }
+    }
+}
+
+impl PipeOut for ChildInput {
+    ghost use Rattle.std.specs.Prelude.{None};
+
+    ghost taken = { λ _. None };
+
+    ghost faults = { λ pipe. pipe.faults };
+
+    fn write(&mut self, from: &[u8]) -> PipeWrite {
+        if from.is_empty() {
+            self.bell.ring();
+            return PipeWrite::Took(0);
+        }
+        match self.put(from) {
+            Some(count) => PipeWrite::Took(count),
+            None => {
+                self.faults = self.faults.saturating_add(1);
+                PipeWrite::Failed
+            }
+        }
+    }
+
+    fn finish(&mut self) {
+        self.pipe = None;
+    }
+}
