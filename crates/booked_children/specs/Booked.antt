@@ -1,0 +1,51 @@
+-- What a loop's children with their tickets answer.
+use Rattle.std.specs.Prelude.{◌≡◌, ◌⊎◌, ℕ, Bool, true, false, List, []}
+use Rattle.host_trace.specs.declared.items.Act.{Act}
+use Rattle.host_trace.specs.declared.items.Act.TheVariants.{Feed, EndInput, WantChild, Kill, Release}
+use Rattle.host_trace.specs.declared.items.Event.{Event}
+use Rattle.host_trace.specs.declared.items.Event.TheVariants.{Exited, Started, StartFailed, StartFull, NoRoom}
+use Rattle.host_trace.specs.declared.outside.Acted.{Acted}
+use Rattle.host_trace.specs.declared.outside.Acted.TheVariants.{Done, NoRoom as HasNoRoom}
+use Rattle.child_edge.specs.declared.kid.SpawnFault.{SpawnFault}
+use Rattle.child_edge.specs.declared.kid.SpawnFault.TheVariants.{Failed, NoMemory}
+use Rattle.child_edge.specs.Kids.{KidTells}
+use Rattle.child_edge.specs.declared.row.Row.{Row}
+use Rattle.child_edge.specs.Rows.{OnKept, Feeds, Changes, Releases, StartsRow, want_marks, end_marks, kept}
+
+-- how many children an event says to have exited
+abbrev pub exits : Event → ℕ
+exits (Exited k) = 1
+exits _ = 0
+
+-- no memory was found to start a program
+abbrev pub is_memory : SpawnFault → Bool
+is_memory Failed = false
+is_memory NoMemory = true
+
+-- the bytes of a piece that were added
+abbrev pub added : List ℕ → Acted → List ℕ
+added bytes Done = bytes
+added bytes HasNoRoom = []
+
+module _ {K : Type 0} where
+  -- no child was started
+  abbrev pub StartsNone : List (Row K) → List (Row K) → Type 0
+  StartsNone rows now = (now ≡ rows) ⊎ (now ≡ kept rows)
+
+  -- What a start of child k of connection c is answered with, by what it did to the children, the count of faults and
+  -- the count of full books. NoRoom is told where there was no memory.
+  abbrev pub Begins : (K → KidTells) → ℕ → ℕ → Event → List (Row K) → List (Row K) → Type 0
+  Begins tells k c (Started j) rows now = (j ≡ k) × StartsRow tells k c (kept rows) now
+  Begins tells k c (StartFailed j) rows now = (j ≡ k) × StartsNone rows now
+  Begins tells k c (StartFull j seen) rows now = (j ≡ k) × (now ≡ rows)
+  Begins tells k c (NoRoom d) rows now = (d ≡ c) × StartsNone rows now
+  Begins tells k c _ rows now = ⊥
+
+  -- an act on a child changes that one, where it is kept; others change none
+  abbrev pub ChildrenDo : (K → KidTells) → Act → Acted → List (Row K) → List (Row K) → Type 0
+  ChildrenDo tells (Feed k bytes) acted rows now = OnKept (Feeds tells (added bytes acted)) k rows now
+  ChildrenDo tells (EndInput k) acted rows now = OnKept (Changes tells end_marks) k rows now
+  ChildrenDo tells (WantChild k) acted rows now = OnKept (Changes tells want_marks) k rows now
+  ChildrenDo tells (Kill k) acted rows now = OnKept (Changes tells (λ m. m)) k rows now
+  ChildrenDo tells (Release k) acted rows now = OnKept (Releases tells) k rows now
+  ChildrenDo tells _ acted rows now = now ≡ rows

@@ -1,0 +1,333 @@
+-- Steps of the set one after another.
+use Rattle.std.proofs.Common.{◌≡◌, ◌≢◌, ◌∙◌, ◌⊎◌, ◌+◌, ◌^◌, ◌-◌, ◌<◌, ◌≤◌, min, length, inl, inr, ℕ, List, [], ◌++◌, Option, Some, None, refl, sym, ap, subst, append_assoc, append-nil, Bool, true, false, arith}
+use Rattle.std.specs.Io.KnownBytes.{Appends, Consumes, append_known}
+use Rattle.std.proofs.KnownBytes.{Consumes-nil, Consumes-trans, Appends-trans}
+use Rattle.host_base.specs.Outsides.{Rose}
+use Rattle.host_base.specs.declared.launch.Peer.{Peer}
+use Rattle.host_trace.specs.declared.items.Event.{Event}
+use Rattle.host_trace.specs.declared.items.Event.TheVariants.{Accepted, ClientBytes, ClientEof, ClientGone, Wrote, Started, StartFailed, StartFull, ChildBytes, ChildEof, ChildBroken, Took, InputGone, Exited, WsText, WsBinary, WsClosed, WsBad, NoRoom, Tick, Stop}
+use Rattle.socket_set.specs.Clients.{ClientState, Moved, Rests, Says, Keeps, IsNewClient, IsDue, wanted_after}
+use Rattle.socket_set.specs.Sockets.{SocketTells}
+use Rattle.std.proofs.lemmas.Bool.{cases_eq}
+use Rattle.std.specs.Option.{IsSome, IfSome}
+use Rattle.socket_set.specs.Sets.{SetState, clients, is_shut_at, OnClient, OnOne, On, Inserts, Leaves, SameDevices, SameClients, client_of, Goes, AllRest, OthersRest, OneSays, Arrives, SameCounts, Tells, IsQuiet, Counted}
+use Rattle.socket_set.proofs.Steps.{moves_self}
+
+pub moved_self : (r : ClientState) → Moved [] r r
+moved_self r =
+    record {
+      frames = [];
+      sent = moves_self r.socket.taken r.outgoing;
+      plain = λ _. refl;
+      heard = λ _ _. Consumes-nil r.socket.left;
+      upgraded = refl;
+      shut = refl;
+    }
+
+pub moved_two : (bytes : List ℕ) (r m s : ClientState) → Moved [] r m → Moved bytes m s → Moved bytes r s
+moved_two bytes r m s g h =
+    record {
+      frames = g.frames ++ h.frames;
+      sent = Appends-trans (append_known r.socket.taken r.outgoing) (append_known m.socket.taken m.outgoing) (append_known s.socket.taken s.outgoing) g.frames h.frames g.sent h.sent;
+      plain = λ p. rw (g.plain p, h.plain (g.upgraded ∙ p)) refl;
+      heard = λ p q. Consumes-trans r.socket.left m.socket.left s.socket.left [] bytes (g.heard p q) (h.heard (g.upgraded ∙ p) (g.shut ∙ q));
+      upgraded = h.upgraded ∙ g.upgraded;
+      shut = h.shut ∙ g.shut;
+    }
+
+pub rests_self : (r : ClientState) → Rests r r
+rests_self r = record { moved = moved_self r; wanted = refl; untold = refl }
+
+pub rests_two : (r m s : ClientState) → Rests r m → Rests m s → Rests r s
+rests_two r m s g h =
+    record { moved = moved_two [] r m s g.moved h.moved; wanted = h.wanted ∙ g.wanted; untold = h.untold ∙ g.untold }
+
+due_two : (c : ℕ) (r m s : ClientState) (e : Event) → Rests r m → IsDue c m s e → IsDue c r s e
+due_two c r m s (ClientBytes d bytes) g h =
+    (h.0, sym g.wanted ∙ h.1, sym g.moved.upgraded ∙ h.2, h.3, h.4, h.5 ∙ g.untold, moved_two bytes r m s g.moved h.6)
+due_two c r m s (ClientEof d) g h =
+    (h.0, sym g.wanted ∙ h.1, sym g.moved.upgraded ∙ h.2, h.3, h.4 ∙ g.untold, moved_two [] r m s g.moved h.5)
+due_two c r m s (ClientGone d) g h = (h.0, h.1 ∙ g.untold, moved_two [] r m s g.moved h.2)
+due_two c r m s (Wrote d n) g h =
+    (h.0, h.1, h.2 ∙ g.untold, h.3 ∙ ap (λ u. min u (length s.outgoing)) g.untold, moved_two [] r m s g.moved h.4)
+due_two c r m s (WsText d bytes) g h =
+    (h.0, sym g.wanted ∙ h.1, sym g.moved.upgraded ∙ h.2, h.3 ∙ g.untold, moved_two [] r m s g.moved h.4)
+due_two c r m s (WsBinary d) g h =
+    (h.0, sym g.wanted ∙ h.1, sym g.moved.upgraded ∙ h.2, h.3 ∙ g.untold, moved_two [] r m s g.moved h.4)
+due_two c r m s (WsClosed d) g h =
+    (h.0, sym g.wanted ∙ h.1, sym g.moved.upgraded ∙ h.2, h.3 ∙ g.untold, moved_two [] r m s g.moved h.4)
+due_two c r m s (WsBad d) g h =
+    (h.0, sym g.wanted ∙ h.1, sym g.moved.upgraded ∙ h.2, h.3 ∙ g.untold, moved_two [] r m s g.moved h.4)
+due_two c r m s (NoRoom d) g h = (h.0, h.1 ∙ g.untold, h.2 ∙ g.moved.shut)
+due_two c r m s (Accepted p) g h = absurd h
+due_two c r m s (Started k) g h = absurd h
+due_two c r m s (StartFailed k) g h = absurd h
+due_two c r m s (StartFull k n) g h = absurd h
+due_two c r m s (ChildBytes k b) g h = absurd h
+due_two c r m s (ChildEof k) g h = absurd h
+due_two c r m s (ChildBroken k) g h = absurd h
+due_two c r m s (Took k n) g h = absurd h
+due_two c r m s (InputGone k) g h = absurd h
+due_two c r m s (Exited k) g h = absurd h
+due_two c r m s (Tick secs) g h = absurd h
+due_two c r m s Stop g h = absurd h
+
+says_two : (c : ℕ) (r m s : ClientState) (e : Event) → Rests r m → Says c m s e → Says c r s e
+says_two c r m s e g h =
+    record {
+      due = due_two c r m s e g h.due;
+      not_shut = sym g.moved.shut ∙ h.not_shut;
+      wanted = h.wanted ∙ ap (λ w. wanted_after e w) g.wanted;
+    }
+
+pub goes_self : (a : Option ClientState) → Goes a a
+goes_self None = tt
+goes_self (Some r) = rests_self r
+
+pub goes_two : (a b d : Option ClientState) → Goes a b → Goes b d → Goes a d
+goes_two None None None g h = tt
+goes_two None None (Some s) g h = absurd h
+goes_two None (Some m) d g h = absurd g
+goes_two (Some r) None None g h = g
+goes_two (Some r) None (Some s) g h = absurd h
+goes_two (Some r) (Some m) None g h = sym g.moved.shut ∙ h
+goes_two (Some r) (Some m) (Some s) g h = rests_two r m s g h
+
+pub all_self : (f : ℕ → Option ClientState) → AllRest f f
+all_self f c = goes_self (f c)
+
+pub all_two : (f g h : ℕ → Option ClientState) → AllRest f g → AllRest g h → AllRest f h
+all_two f g h p q c = goes_two (f c) (g c) (h c) (p c) (q c)
+
+-- what a client was before it rested
+rested : (a : Option ClientState) (m : ClientState) → Goes a (Some m) → (r : ClientState) × (a ≡ Some r) × Rests r m
+rested None m g = absurd g
+rested (Some r) m g = (r, refl, g)
+
+one_two : (e : Event) (f g h : ℕ → Option ClientState) → AllRest f g → OneSays e g h → OneSays e f h
+one_two e f g h p q =
+    let r = rested (f q.c) q.r (subst (λ x. Goes (f q.c) x) q.was (p q.c)) in
+    record {
+      c = q.c;
+      r = r.0;
+      s = q.s;
+      was = r.1;
+      is_now = q.is_now;
+      says = says_two q.c r.0 q.r q.s e r.2 q.says;
+      others = λ d apart. goes_two (f d) (g d) (h d) (p d) (q.others d apart);
+    }
+
+arrives_two : (c b : ℕ) (f g h : ℕ → Option ClientState) → AllRest f g → b ≡ c → Arrives c g h → Arrives b f h
+arrives_two c b f g h p e q =
+    rw e record { s = q.s; is_now = q.is_now; fresh = q.fresh; others = λ d apart. goes_two (f d) (g d) (h d) (p d) (q.others d apart) }
+
+pub quiet_self : (a : SetState) → IsQuiet a a
+quiet_self a = record { counts = record { accepted = refl; ticked = refl }; rest = all_self (clients a) }
+
+counts_two : (a b d : SetState) → SameCounts a b → SameCounts b d → SameCounts a d
+counts_two a b d p q = record { accepted = q.accepted ∙ p.accepted; ticked = q.ticked ∙ p.ticked }
+
+pub quiet_two : (a b d : SetState) → IsQuiet a b → IsQuiet b d → IsQuiet a d
+quiet_two a b d p q =
+    record { counts = counts_two a b d p.counts q.counts; rest = all_two (clients a) (clients b) (clients d) p.rest q.rest }
+
+pub counted_self : (a : SetState) → Counted a a
+counted_self a = record { grown = omega arith; ports = inl refl }
+
+rose_more : (a b d : ℕ) → a ≤ b → Rose b d → Rose a d
+rose_more a b d p q = omega (arith, p, q)
+
+rose_on : (a b d : ℕ) → Rose a b → b ≤ d → Rose a d
+rose_on a b d p q = omega (arith, p, q)
+
+pub counted_two : (a b d : SetState) → Counted a b → Counted b d → Counted a d
+counted_two a b d p q =
+    record {
+      grown = omega (arith, p.grown, q.grown);
+      ports = elim p.ports [
+        | inl same ↦ elim q.ports [
+          | inl still ↦ inl (still ∙ same)
+          | inr rose ↦ inr (rose_more a.faults b.faults d.faults p.grown rose)
+        ]
+        | inr rose ↦ inr (rose_on a.faults b.faults d.faults rose q.grown)
+      ];
+    }
+
+pub rose_later : (a b : SetState) (x : ℕ) → Counted a b → Rose b.faults x → Rose a.faults x
+rose_later a b x p q = rose_more a.faults b.faults x p.grown q
+
+others_two : (e : Event) (a b d : SetState) → IsQuiet a b → SameCounts b d × OneSays e (clients b) (clients d) → SameCounts a d × OneSays e (clients a) (clients d)
+others_two e a b d p q = (counts_two a b d p.counts q.0, one_two e (clients a) (clients b) (clients d) p.rest q.1)
+
+pub tells_two : (e : Event) (a b d : SetState) → IsQuiet a b → Tells e b d → Tells e a d
+tells_two (Accepted peer) a b d p q = (
+  q.0 ∙ ap (λ n. n + 1) p.counts.accepted,
+  q.1 ∙ p.counts.ticked,
+  arrives_two b.accepted a.accepted (clients a) (clients b) (clients d) p.rest (sym p.counts.accepted) q.2,
+)
+tells_two (Tick secs) a b d p q =
+    (q.0 ∙ p.counts.accepted, q.1 ∙ ap (λ n. n + 1) p.counts.ticked, q.2, q.3, all_two (clients a) (clients b) (clients d) p.rest q.4)
+tells_two (ClientBytes c x) a b d p q = others_two (ClientBytes c x) a b d p q
+tells_two (ClientEof c) a b d p q = others_two (ClientEof c) a b d p q
+tells_two (ClientGone c) a b d p q = others_two (ClientGone c) a b d p q
+tells_two (Wrote c n) a b d p q = others_two (Wrote c n) a b d p q
+tells_two (Started k) a b d p q = others_two (Started k) a b d p q
+tells_two (StartFailed k) a b d p q = others_two (StartFailed k) a b d p q
+tells_two (StartFull k n) a b d p q = others_two (StartFull k n) a b d p q
+tells_two (ChildBytes k x) a b d p q = others_two (ChildBytes k x) a b d p q
+tells_two (ChildEof k) a b d p q = others_two (ChildEof k) a b d p q
+tells_two (ChildBroken k) a b d p q = others_two (ChildBroken k) a b d p q
+tells_two (Took k n) a b d p q = others_two (Took k n) a b d p q
+tells_two (InputGone k) a b d p q = others_two (InputGone k) a b d p q
+tells_two (Exited k) a b d p q = others_two (Exited k) a b d p q
+tells_two (WsText c x) a b d p q = others_two (WsText c x) a b d p q
+tells_two (WsBinary c) a b d p q = others_two (WsBinary c) a b d p q
+tells_two (WsClosed c) a b d p q = others_two (WsClosed c) a b d p q
+tells_two (WsBad c) a b d p q = others_two (WsBad c) a b d p q
+tells_two (NoRoom c) a b d p q = others_two (NoRoom c) a b d p q
+tells_two Stop a b d p q = others_two Stop a b d p q
+
+-- ---- from one client to the set
+
+-- all others are as they were
+others_rest : (c : ℕ) (f g : ℕ → Option ClientState) → ((d : ℕ) → d ≢ c → g d ≡ f d) → OthersRest c f g
+others_rest c f g h d apart = subst (λ x. Goes (f d) x) (sym (h d apart)) (goes_self (f d))
+
+all_rest : (c : ℕ) (f g : ℕ → Option ClientState) → Goes (f c) (g c) → ((d : ℕ) → d ≢ c → g d ≡ f d) → AllRest f g
+all_rest c f g one h d =
+    elim (cases_eq d c) [
+      | inl same ↦ rw same one
+      | inr apart ↦ others_rest c f g h d apart
+    ]
+
+goes_on : (a b : Option ClientState) → OnClient Rests a b → Goes a b
+goes_on None None h = tt
+goes_on None (Some s) h = cc
+goes_on (Some r) None h = absurd h
+goes_on (Some r) (Some s) h = h
+
+goes_kept : (a b : Option ClientState) → OnClient Keeps a b → Goes a b
+goes_kept None None h = tt
+goes_kept None (Some s) h = cc
+goes_kept (Some r) None h = absurd h
+goes_kept (Some r) (Some s) h = rw h (rests_self r)
+
+pub quiet_on : (c : ℕ) (a b : SetState) → OnOne c Rests a b → IsQuiet a b
+quiet_on c a b h =
+    record {
+      counts = record { accepted = h.accepted; ticked = h.ticked };
+      rest = all_rest c (clients a) (clients b) (goes_on (clients a c) (clients b c) h.client) h.others;
+    }
+
+pub quiet_kept : (c : ℕ) (a b : SetState) → On c Keeps a b → IsQuiet a b
+quiet_kept c a b h =
+    record {
+      counts = record { accepted = h.one.accepted; ticked = h.one.ticked };
+      rest = all_rest c (clients a) (clients b) (goes_kept (clients a c) (clients b c) h.one.client) h.one.others;
+    }
+
+goes_gone : (a b : Option ClientState) → is_shut_at a ≡ true → b ≡ None → Goes a b
+goes_gone None b h e = rw e tt
+goes_gone (Some r) b h e = rw e h
+
+pub quiet_left : (c : ℕ) (a b : SetState) → is_shut_at (clients a c) ≡ true → Leaves c a b → IsQuiet a b
+quiet_left c a b shut h =
+    record {
+      counts = record { accepted = h.accepted; ticked = h.ticked };
+      rest = all_rest c (clients a) (clients b) (goes_gone (clients a c) (clients b c) shut h.gone) h.others;
+    }
+
+-- the client that was accepted
+pub accepted_told : (peer : Peer) (t : SocketTells) (n s : ClientState) (a b d : SetState) → SameClients a b → IsNewClient t n → s ≡ n
+    → Inserts s b d → Tells (Accepted peer) a d
+accepted_told peer t n s a b d same new e h =
+    let clients_same : (c : ℕ) → clients b c ≡ clients a c = λ c. ap (λ rows. client_of rows c) same.rows in (
+      h.accepted ∙ ap (λ k. k + 1) same.accepted,
+      h.ticked ∙ same.ticked,
+      record {
+        s = s;
+        is_now = ap (λ k. clients d k) (sym same.accepted) ∙ h.is_now;
+        fresh = rw e record {
+          nothing_waits = new.nothing_waits;
+          nothing_untold = new.nothing_untold;
+          unasked = new.unasked;
+          plain = new.plain;
+          not_shut = new.not_shut;
+        };
+        others = λ c apart. subst (λ x. Goes (clients a c) x) (sym (h.others c (λ z. apart (z ∙ same.accepted)) ∙ clients_same c)) (goes_self (clients a c));
+      },
+    )
+
+pub quiet_same : (a b : SetState) → SameClients a b → IsQuiet a b
+quiet_same a b h =
+    record {
+      counts = record { accepted = h.accepted; ticked = h.ticked };
+      rest = λ c. subst (λ x. Goes (clients a c) x) (sym (ap (λ rows. client_of rows c) h.rows)) (goes_self (clients a c));
+    }
+
+-- a client that gave an event
+said : (c : ℕ) (e : Event) (f g : ℕ → Option ClientState) (a b : Option ClientState) → f c ≡ a → g c ≡ b → IsSome a
+    → OnClient (λ r s. Says c r s e) a b → ((d : ℕ) → d ≢ c → g d ≡ f d) → OneSays e f g
+said c e f g None b p q known h others = absurd (cc)
+said c e f g (Some r) None p q known h others = absurd h
+said c e f g (Some r) (Some s) p q known h others =
+    record { c = c; r = r; s = s; was = p; is_now = q; says = h; others = others_rest c f g others }
+
+one_said : (c : ℕ) (e : Event) (a b : SetState) → IsSome (clients a c) → OnOne c (λ r s. Says c r s e) a b
+    → SameCounts a b × OneSays e (clients a) (clients b)
+one_said c e a b known h =
+    (record { accepted = h.accepted; ticked = h.ticked }, said c e (clients a) (clients b) (clients a c) (clients b c) refl refl known h.client h.others)
+
+none_said : (R : ClientState → ClientState → Type 0) (a b : Option ClientState) → IsSome a → ((r s : ClientState) → R r s → ⊥)
+    → OnClient R a b → ⊥
+none_said R None b known never h = absurd (cc)
+none_said R (Some r) None known never h = absurd h
+none_said R (Some r) (Some s) known never h = never r s h
+
+pub tells_said : (c : ℕ) (e : Event) (a b : SetState) → IsSome (clients a c) → OnOne c (λ r s. Says c r s e) a b → Tells e a b
+tells_said c (Accepted peer) a b known h = absurd (none_said (λ r s. Says c r s (Accepted peer)) (clients a c) (clients b c) known (λ r s said. said.due) h.client)
+tells_said c (Tick secs) a b known h = absurd (none_said (λ r s. Says c r s (Tick secs)) (clients a c) (clients b c) known (λ r s said. said.due) h.client)
+tells_said c (ClientBytes d x) a b known h = one_said c (ClientBytes d x) a b known h
+tells_said c (ClientEof d) a b known h = one_said c (ClientEof d) a b known h
+tells_said c (ClientGone d) a b known h = one_said c (ClientGone d) a b known h
+tells_said c (Wrote d n) a b known h = one_said c (Wrote d n) a b known h
+tells_said c (Started k) a b known h = one_said c (Started k) a b known h
+tells_said c (StartFailed k) a b known h = one_said c (StartFailed k) a b known h
+tells_said c (StartFull k n) a b known h = one_said c (StartFull k n) a b known h
+tells_said c (ChildBytes k x) a b known h = one_said c (ChildBytes k x) a b known h
+tells_said c (ChildEof k) a b known h = one_said c (ChildEof k) a b known h
+tells_said c (ChildBroken k) a b known h = one_said c (ChildBroken k) a b known h
+tells_said c (Took k n) a b known h = one_said c (Took k n) a b known h
+tells_said c (InputGone k) a b known h = one_said c (InputGone k) a b known h
+tells_said c (Exited k) a b known h = one_said c (Exited k) a b known h
+tells_said c (WsText d x) a b known h = one_said c (WsText d x) a b known h
+tells_said c (WsBinary d) a b known h = one_said c (WsBinary d) a b known h
+tells_said c (WsClosed d) a b known h = one_said c (WsClosed d) a b known h
+tells_said c (WsBad d) a b known h = one_said c (WsBad d) a b known h
+tells_said c (NoRoom d) a b known h = one_said c (NoRoom d) a b known h
+tells_said c Stop a b known h = one_said c Stop a b known h
+
+pub counted_same : (a b : SetState) → SameDevices a b → Counted a b
+counted_same a b h = record { grown = rw h.faults (omega arith); ports = inl (ap (λ p. p.failed) h.ports) }
+
+pub devices_self : (a : SetState) → SameDevices a a
+devices_self a = record { faults = refl; ports = refl }
+
+pub devices_two : (a b d : SetState) → SameDevices a b → SameDevices b d → SameDevices a d
+devices_two a b d p q = record { faults = q.faults ∙ p.faults; ports = q.ports ∙ p.ports }
+
+pub kept_devices : (c : ℕ) (a b : SetState) → On c Keeps a b → SameDevices a b
+kept_devices c a b h = h.devices
+
+pub left_devices : (c : ℕ) (a b : SetState) → Leaves c a b → SameDevices a b
+left_devices c a b h = h.devices
+
+-- what is told after a turn that had nothing to tell
+pub tells_if : (c : ℕ) (r : Option Event) (a b : SetState) → IfSome r (λ _. IsSome (clients a c)) → IfSome r (λ e. OnOne c (λ x y. Says c x y e) a b)
+    → IfSome r (λ e. Tells e a b)
+tells_if c None a b p q = tt
+tells_if c (Some e) a b p q = tells_said c e a b p q
+
+pub tells_later : (r : Option Event) (a b d : SetState) → IsQuiet a b → IfSome r (λ e. Tells e b d) → IfSome r (λ e. Tells e a d)
+tells_later None a b d p q = tt
+tells_later (Some e) a b d p q = tells_two e a b d p q

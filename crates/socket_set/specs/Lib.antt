@@ -1,0 +1,4 @@
+pub mod Sockets
+pub mod Clients
+pub mod Devices
+pub mod Sets

@@ -1,0 +1,580 @@
+// The clients of a loop.
+ghost use Rattle.std.specs.Prelude.{◌≡◌, is_ok, if◌then◌else◌};
+
+use super::client::Due;
+use super::{Arrival, Client, Ports, Ready};
+use host_base::{NoMemory, Peer, Text};
+use host_trace::{Act, Acted, Event};
+use std::alloc::Global;
+use std::collections::{BTreeMap, VecDeque};
+use std::marker::Model;
+
+// How many bytes one read takes at most.
+const PIECE: usize = 65_536;
+
+// Whether clients are accepted.
+#[derive(Clone, Copy, Debug, PartialEq, Eq)]
+enum Listening {
+    On,
+    /// Until the next tick.
+    Paused,
+    Ended,
+}
+
+/// The clients of a loop, by their numbers, each until it was shut and what waited for it was sent or given up.
+#[derive(Drop)]
+pub struct SocketSet<P: Ports> {
+    alloc: Global,
+    ports: P,
+    clients: BTreeMap<u64, Client<P::Socket>>,
+    // Those that were shut.
+    leaving: VecDeque<u64>,
+    // Who is asked next. Each stands there once.
+    due: VecDeque<Due>,
+    listening: Listening,
+    listener_queued: bool,
+    // So many may be told before the ports are asked again what is ready.
+    round: usize,
+    most: usize,
+    accepted: u64,
+    ticked: u64,
+    buffer: Vec<u8>,
+    faults: u64,
+}
+
+impl<P: Ports> Model for SocketSet<P> {
+    ghost use Rattle.std.specs.Prelude.{◌<◌, ◌≤◌, vec_len};
+    ghost use Rattle.socket_set.specs.Sets.{SetState, set_of};
+
+    ghost Value = { SetState };
+
+    ghost view = { λ m. set_of m.clients.entries m.accepted m.ticked m.faults (P.tells m.ports) };
+
+    ghost invariant = { λ m. (0 < vec_len m.buffer) × (vec_len m.buffer ≤ 65536) };
+}
+
+impl<P: Ports + Drop> SocketSet<P> {
+    ghost use Rattle.std.specs.Prelude.{◌≡◌, ◌+◌, ◌-◌, ◌^◌, ◌<◌, true, false, [], IfOk, IfSome, IsSome, IsNone, OnOk, OnErr, length, sum_by};
+    ghost use Rattle.host_base.specs.Outsides.{Rose};
+    ghost use Rattle.host_trace.specs.Told.{is_failure};
+    ghost use Rattle.socket_set.specs.Clients.{Says, Rests, UnlessShut, Keeps, WantsMore, Writes, Upgrades, Frames, Shuts, has_failed};
+    ghost use Rattle.socket_set.specs.Sets.{SetState, Tells, IsQuiet, Counted, OnOne, On, Inserts, Leaves, SameDevices, SameClients, Acts, is_shut_at, clients};
+
+    /// A set of no client yet, with room for `most`, those that were shut among them.
+    pub fn new(alloc: Global, ports: P, most: u32) -> Result<SocketSet<P>, NoMemory>
+        ensures none { IfOk result (λ set. set.rows ≡ []) }
+        ensures counts { IfOk result (λ set. (set.accepted ≡ 0) × (set.ticked ≡ 0) × (set.faults ≡ 0)) }
+        ensures ports { IfOk result (λ set. set.ports ≡ P.tells ports) }
+    {
+        let most = most as usize;
+        Ok(SocketSet {
+            alloc,
+            ports,
+            clients: BTreeMap::new(alloc),
+            leaving: VecDeque::with_capacity(alloc, most)?,
+            due: VecDeque::with_capacity(alloc, most.saturating_add(1))?,
+            listening: Listening::On,
+            listener_queued: false,
+            round: 0,
+            most,
+            accepted: 0,
+            ticked: 0,
+            buffer: vec![in alloc; 0u8; PIECE]?,
+            faults: 0,
+        })
+    }
+
+    /// One event of a client or of the clock, if there is any to tell.
+    #[tactic(auto, using(crate::proofs::Sets::tells_two, crate::proofs::Sets::quiet_two, crate::proofs::Sets::counted_two, crate::proofs::Sets::rose_later))]
+    pub fn poll(&mut self) -> Option<Event>
+        ensures some { IfSome result (λ event. Tells event self.old self.new) }
+        ensures none { IsNone result → IsQuiet self.old self.new }
+        ensures counted { Counted self.old self.new }
+        ensures failure { has_failed result ≡ true → Rose self.old.faults self.new.faults }
+    {
+        match self.tick() {
+            Some(event) => Some(event),
+            None => self.ask_all(),
+        }
+    }
+
+    // Asks those that are due, each once, up to the first that has something to tell. Once in a round the ports
+    // are asked what is ready.
+    #[tactic(auto, using(crate::proofs::Sets::tells_two, crate::proofs::Sets::quiet_two, crate::proofs::Sets::quiet_self, crate::proofs::Sets::counted_two, crate::proofs::Sets::counted_self, crate::proofs::Sets::rose_later))]
+    fn ask_all(&mut self) -> Option<Event>
+        ensures some { IfSome result (λ event. Tells event self.old self.new) }
+        ensures none { IsNone result → IsQuiet self.old self.new }
+        ensures counted { Counted self.old self.new }
+        ensures failure { has_failed result ≡ true → Rose self.old.faults self.new.faults }
+    {
+        self.look_again();
+        for _ in 0..self.due.len() {
+            match self.ask_next() {
+                Some(event) => return Some(event),
+                None => {}
+            }
+        }
+        None
+    }
+
+    #[tactic(auto, using(crate::proofs::Sets::quiet_self, crate::proofs::Sets::counted_self))]
+    fn look_again(&mut self)
+        ensures quiet { IsQuiet self.old self.new }
+        ensures counted { Counted self.old self.new }
+    {
+        if self.round == 0 {
+            self.look(0);
+            self.round = self.due.len();
+        } else {
+            self.round -= 1;
+        }
+    }
+
+    #[tactic(auto, using(crate::proofs::Sets::quiet_self, crate::proofs::Sets::counted_self))]
+    fn ask_next(&mut self) -> Option<Event>
+        ensures some { IfSome result (λ event. Tells event self.old self.new) }
+        ensures none { IsNone result → IsQuiet self.old self.new }
+        ensures counted { Counted self.old self.new }
+        ensures failure { has_failed result ≡ true → Rose self.old.faults self.new.faults }
+    {
+        match self.due.pop_front() {
+            Some(Due::Client(c)) => self.ask(c),
+            Some(Due::Listener) => self.accept(),
+            None => None,
+        }
+    }
+
+    #[tactic(auto, using(crate::proofs::Sets::quiet_self))]
+    fn ask(&mut self, c: u64) -> Option<Event>
+        ensures some { IfSome result (λ event. Tells event self.old self.new) }
+        ensures none { IsNone result → IsQuiet self.old self.new }
+        ensures counted { Counted self.old self.new }
+        ensures failure { has_failed result ≡ true → Rose self.old.faults self.new.faults }
+    {
+        if self.is_leaving(c) {
+            self.leave(c);
+            None
+        } else {
+            self.ask_client(c)
+        }
+    }
+
+    fn is_leaving(&self, c: u64) -> bool
+        ensures { result ≡ is_shut_at (clients self.now c) }
+    {
+        match self.clients.get(&c) {
+            Some(client) => client.is_shut(),
+            None => false,
+        }
+    }
+
+    // Asks a client that was not shut.
+    #[tactic(auto, using(crate::proofs::Sets::tells_said, crate::proofs::Sets::quiet_on))]
+    fn ask_client(&mut self, c: u64) -> Option<Event>
+        requires { is_shut_at (clients self.old c) ≡ false }
+        ensures some { IfSome result (λ event. Tells event self.old self.new) }
+        ensures none { IsNone result → IsQuiet self.old self.new }
+        ensures counted { Counted self.old self.new }
+        ensures failure { has_failed result ≡ true → Rose self.old.faults self.new.faults }
+    {
+        self.turn(c)
+    }
+
+    fn turn(&mut self, c: u64) -> Option<Event>
+        requires { is_shut_at (clients self.old c) ≡ false }
+        ensures on { IfSome result (λ event. OnOne c (λ r s. Says c r s event) self.old self.new) }
+        ensures known { IfSome result (λ _. IsSome (clients self.old c)) }
+        ensures none { IsNone result → OnOne c Rests self.old self.new }
+        ensures counted { Counted self.old self.new }
+        ensures failure { has_failed result ≡ true → Rose self.old.faults self.new.faults }
+    {
+        let Some(client) = self.clients.get_mut(&c) else {
+            return None;
+        };
+        let event = client.turn(
+            &mut self.ports,
+            &mut self.faults,
+            self.alloc,
+            c,
+            self.buffer.as_mut_slice(),
+        );
+        client.enqueue(&mut self.due, c);
+        event
+    }
+
+    // One step of a client that was shut.
+    #[tactic(auto, using(crate::proofs::Sets::quiet_on, crate::proofs::Sets::quiet_two, crate::proofs::Sets::counted_two, crate::proofs::Sets::counted_same))]
+    fn leave(&mut self, c: u64)
+        requires { is_shut_at (clients self.old c) ≡ true }
+        ensures quiet { IsQuiet self.old self.new }
+        ensures counted { Counted self.old self.new }
+    {
+        if self.turn_away(c) {
+            self.give_up(c);
+        }
+    }
+
+    // Whether it is over.
+    fn turn_away(&mut self, c: u64) -> bool
+        requires { is_shut_at (clients self.old c) ≡ true }
+        ensures on { OnOne c Rests self.old self.new }
+        ensures counted { Counted self.old self.new }
+    {
+        let Some(client) = self.clients.get_mut(&c) else {
+            return false;
+        };
+        let over = client.turn_away(
+            &mut self.ports,
+            &mut self.faults,
+            c,
+            self.buffer.as_mut_slice(),
+        );
+        client.enqueue(&mut self.due, c);
+        over
+    }
+
+    // Lets go of a client, if it was shut.
+    #[tactic(auto, using(crate::proofs::Sets::quiet_left, crate::proofs::Sets::quiet_self, crate::proofs::Sets::devices_self, crate::proofs::Sets::left_devices))]
+    fn give_up(&mut self, c: u64)
+        ensures quiet { IsQuiet self.old self.new }
+        ensures same { SameDevices self.old self.new }
+    {
+        if self.is_leaving(c) {
+            self.remove(c);
+        }
+    }
+
+    fn remove(&mut self, c: u64)
+        ensures { Leaves c self.old self.new }
+    {
+        if let Some(mut client) = self.clients.remove(&c) {
+            client.forget(&mut self.ports);
+        }
+    }
+
+    fn enqueue_listener(&mut self)
+        ensures { self.new ≡ self.old }
+    {
+        if !self.listener_queued {
+            self.listener_queued = self.due.push_back(Due::Listener).is_ok();
+        }
+    }
+
+    // Takes the next client that waits. Where that fails, it is tried again after the next tick.
+    #[tactic(auto, using(crate::proofs::Sets::quiet_self, crate::proofs::Sets::counted_self))]
+    fn accept(&mut self) -> Option<Event>
+        ensures some { IfSome result (λ event. Tells event self.old self.new) }
+        ensures none { IsNone result → IsQuiet self.old self.new }
+        ensures counted { Counted self.old self.new }
+        ensures failure { has_failed result ≡ true → Rose self.old.faults self.new.faults }
+    {
+        self.listener_queued = false;
+        if self.listening != Listening::On {
+            return None;
+        }
+        if self.clients.len() >= self.most || self.accepted == u64::MAX {
+            self.listening = Listening::Paused;
+            return None;
+        }
+        match self.ports.accept() {
+            Arrival::Client { socket, peer } => {
+                self.enqueue_listener();
+                self.admit(socket, peer)
+            }
+            Arrival::Nothing => None,
+            Arrival::Failed => {
+                self.faults = self.faults.saturating_add(1);
+                self.listening = Listening::Paused;
+                None
+            }
+        }
+    }
+
+    // Makes a client of a socket. One that can't be watched, or for which there is no memory, is let go.
+    #[tactic(auto, using(crate::proofs::Sets::quiet_same, crate::proofs::Sets::quiet_two, crate::proofs::Sets::counted_two, crate::proofs::Sets::counted_same))]
+    fn admit(&mut self, socket: P::Socket, peer: Peer) -> Option<Event>
+        requires { self.old.accepted < 2 ^ 64 - 1 }
+        ensures some { IfSome result (λ event. Tells event self.old self.new) }
+        ensures none { IsNone result → IsQuiet self.old self.new }
+        ensures counted { Counted self.old self.new }
+        ensures failure { has_failed result ≡ false }
+    {
+        let mut client = Client::new(self.alloc, socket);
+        if !self.watch(&mut client) {
+            return None;
+        }
+        if self.insert(client) {
+            Some(Event::Accepted { peer })
+        } else {
+            None
+        }
+    }
+
+    // Whether the next client's socket is reported from now on.
+    fn watch(&mut self, client: &mut Client<P::Socket>) -> bool
+        ensures client { client.new ≡ client.old }
+        ensures same { SameClients self.old self.new }
+        ensures counted { Counted self.old self.new }
+    {
+        if client.watch(&mut self.ports, self.accepted) {
+            return true;
+        }
+        self.faults = self.faults.saturating_add(1);
+        false
+    }
+
+    // Whether there was memory to keep it as the next client.
+    fn insert(&mut self, client: Client<P::Socket>) -> bool
+        requires { self.old.accepted < 2 ^ 64 - 1 }
+        ensures kept { result ≡ true → Inserts client self.old self.new }
+        ensures none { result ≡ false → SameClients self.old self.new }
+        ensures same { SameDevices self.old self.new }
+    {
+        match self.clients.insert(self.accepted, client) {
+            Ok(_) => {
+                self.accepted += 1;
+                true
+            }
+            Err(_) => false,
+        }
+    }
+
+    // A tick, where the clock has shown more than were told.
+    #[tactic(auto, using(crate::proofs::Sets::counted_same, crate::proofs::Sets::quiet_self))]
+    fn tick(&mut self) -> Option<Event>
+        ensures some { IfSome result (λ event. Tells event self.old self.new) }
+        ensures none { IsNone result → IsQuiet self.old self.new }
+        ensures counted { Counted self.old self.new }
+        ensures failure { has_failed result ≡ false }
+    {
+        let shown = self.ports.ticks();
+        if shown <= self.ticked {
+            return None;
+        }
+        self.ticked += 1;
+        let secs = self.ports.seconds();
+        if self.listening == Listening::Paused {
+            self.listening = Listening::On;
+            self.enqueue_listener();
+        }
+        self.tick_leaving();
+        Some(Event::Tick { secs })
+    }
+
+    // Has those that were shut hear the tick.
+    #[tactic(auto, using(crate::proofs::Sets::quiet_self, crate::proofs::Sets::quiet_two, crate::proofs::Sets::devices_self, crate::proofs::Sets::devices_two))]
+    fn tick_leaving(&mut self)
+        ensures quiet { IsQuiet self.old self.new }
+        ensures same { SameDevices self.old self.new }
+    {
+        for _ in 0..self.leaving.len() {
+            match self.next_leaving() {
+                Some(c) => self.tick_one(c),
+                None => return,
+            }
+        }
+    }
+
+    fn next_leaving(&mut self) -> Option<u64>
+        ensures { self.new ≡ self.old }
+    {
+        self.leaving.pop_front()
+    }
+
+    #[tactic(auto, using(crate::proofs::Sets::quiet_kept, crate::proofs::Sets::quiet_two, crate::proofs::Sets::kept_devices, crate::proofs::Sets::devices_two))]
+    fn tick_one(&mut self, c: u64)
+        ensures quiet { IsQuiet self.old self.new }
+        ensures same { SameDevices self.old self.new }
+    {
+        if self.tick_client(c) {
+            self.give_up(c);
+        } else if self.is_leaving(c) {
+            let _ = self.leaving.push_back(c);
+        }
+    }
+
+    fn tick_client(&mut self, c: u64) -> bool
+        ensures { On c Keeps self.old self.new }
+    {
+        let Some(client) = self.clients.get_mut(&c) else {
+            return false;
+        };
+        client.enqueue(&mut self.due, c);
+        client.tick()
+    }
+
+    /// Waits until a client, a tick or a wake-up is at hand, and no longer than so many milliseconds. It doesn't
+    /// wait while a client is still to be asked.
+    #[tactic(auto, using(crate::proofs::Sets::counted_same))]
+    pub fn wait(&mut self, millis: u64)
+        ensures quiet { IsQuiet self.old self.new }
+        ensures counted { Counted self.old self.new }
+    {
+        let millis = if self.due.is_empty() {
+            self.ports.millis_to_tick().min(millis)
+        } else {
+            0
+        };
+        self.look(millis);
+        self.round = self.due.len();
+    }
+
+    // Waits, and has those that are ready asked. A wait that fails is passed over.
+    #[tactic(auto, using(crate::proofs::Sets::quiet_two, crate::proofs::Sets::counted_two, crate::proofs::Sets::counted_same, crate::proofs::Sets::quiet_self))]
+    fn look(&mut self, millis: u64)
+        ensures quiet { IsQuiet self.old self.new }
+        ensures counted { Counted self.old self.new }
+    {
+        if !self.ports.wait(millis) {
+            self.faults = self.faults.saturating_add(1);
+        }
+        self.note_all();
+    }
+
+    #[tactic(auto, using(crate::proofs::Sets::quiet_self, crate::proofs::Sets::quiet_two, crate::proofs::Sets::devices_self, crate::proofs::Sets::devices_two))]
+    fn note_all(&mut self)
+        ensures quiet { IsQuiet self.old self.new }
+        ensures same { SameDevices self.old self.new }
+    {
+        for _ in 0..u64::MAX {
+            match self.next_ready() {
+                Some(ready) => self.note(ready),
+                None => return,
+            }
+        }
+    }
+
+    fn next_ready(&mut self) -> Option<Ready>
+        ensures { self.new ≡ self.old }
+    {
+        self.ports.ready()
+    }
+
+    #[tactic(auto, using(crate::proofs::Sets::quiet_kept, crate::proofs::Sets::quiet_self, crate::proofs::Sets::devices_self, crate::proofs::Sets::kept_devices))]
+    fn note(&mut self, ready: Ready)
+        ensures quiet { IsQuiet self.old self.new }
+        ensures same { SameDevices self.old self.new }
+    {
+        match ready {
+            Ready::Listener => self.enqueue_listener(),
+            Ready::Client { c, failed } => self.note_client(c, failed),
+        }
+    }
+
+    // One that is gone may still be reported.
+    fn note_client(&mut self, c: u64, failed: bool)
+        ensures { On c Keeps self.old self.new }
+    {
+        if let Some(client) = self.clients.get_mut(&c) {
+            client.note(failed);
+            client.enqueue(&mut self.due, c);
+        }
+    }
+
+    /// Does an act on a client. Others do nothing.
+    pub fn act(&mut self, act: &Act) -> Acted
+        ensures { Acts act.now result self.old self.new }
+    {
+        match act {
+            Act::WantClient { c } => self.want(*c),
+            Act::Write { c, bytes } => return acted(self.write(*c, bytes.as_slice())),
+            Act::Upgrade { c, rest } => return acted(self.upgrade(*c, rest.as_slice())),
+            Act::Says { c, texts } => self.say(*c, texts.as_slice()),
+            Act::CloseWs { c, code } => self.close(*c, *code),
+            Act::Shut { c, .. } => self.shut(*c),
+            _ => {}
+        }
+        Acted::Done
+    }
+
+    fn want(&mut self, c: u64)
+        ensures { On c (UnlessShut WantsMore) self.old self.new }
+    {
+        if let Some(client) = self.clients.get_mut(&c) {
+            client.want();
+            client.enqueue(&mut self.due, c);
+        }
+    }
+
+    fn write(&mut self, c: u64, bytes: &[u8]) -> Result<(), NoMemory>
+        ensures ok { OnOk result (On c (UnlessShut (Writes bytes.now)) self.old self.new) }
+        ensures err { OnErr result (On c Keeps self.old self.new) }
+    {
+        let Some(client) = self.clients.get_mut(&c) else {
+            return Ok(());
+        };
+        client.write(bytes)?;
+        client.enqueue(&mut self.due, c);
+        Ok(())
+    }
+
+    fn upgrade(&mut self, c: u64, rest: &[u8]) -> Result<(), NoMemory>
+        ensures ok { OnOk result (On c (UnlessShut Upgrades) self.old self.new) }
+        ensures err { OnErr result (On c Keeps self.old self.new) }
+    {
+        let Some(client) = self.clients.get_mut(&c) else {
+            return Ok(());
+        };
+        client.upgrade(self.alloc, rest)?;
+        client.enqueue(&mut self.due, c);
+        Ok(())
+    }
+
+    fn say(&mut self, c: u64, texts: &[Text])
+        ensures { On c (UnlessShut (Frames (sum_by length texts.now))) self.old self.new }
+    {
+        if let Some(client) = self.clients.get_mut(&c) {
+            client.say(texts);
+            client.enqueue(&mut self.due, c);
+        }
+    }
+
+    fn close(&mut self, c: u64, code: u16)
+        ensures { On c (UnlessShut (Frames 0)) self.old self.new }
+    {
+        if let Some(client) = self.clients.get_mut(&c) {
+            client.close(code);
+            client.enqueue(&mut self.due, c);
+        }
+    }
+
+    fn shut(&mut self, c: u64)
+        ensures { On c Shuts self.old self.new }
+    {
+        if let Some(client) = self.clients.get_mut(&c) {
+            client.shut();
+            client.enqueue(&mut self.due, c);
+            let _ = self.leaving.push_back(c);
+        }
+    }
+
+    /// No further client is accepted.
+    pub fn end_listening(&mut self)
+        ensures { self.new ≡ self.old }
+    {
+        self.listening = Listening::Ended;
+    }
+
+    /// How many clients were accepted. The next has this number.
+    pub fn accepted(&self) -> u64
+        ensures { result ≡ self.now.accepted }
+    {
+        self.accepted
+    }
+
+    /// How many failures were counted.
+    pub fn faults(&self) -> u64
+        ensures { result ≡ self.now.faults }
+    {
+        self.faults
+    }
+}
+
+fn acted(done: Result<(), NoMemory>) -> Acted
+    ensures { result ≡ (if is_ok done then Acted.Done else Acted.NoRoom) }
+{
+    match done {
+        Ok(()) => Acted::Done,
+        Err(NoMemory) => Acted::NoRoom,
+    }
+}
