@@ -1,7 +1,10 @@
 #!/usr/bin/env bash
 # Prints the time of 100,000 texts of 32 bytes that come through a link and are said by it, as a multiple of
 # copying the same bytes in as many calls, of masking the bytes that come, and of tungstenite alone, which
-# reads the same frames from one slice and writes into one buffer. The aim: tungstenite's own time.
+# reads the same frames from one slice and writes into one buffer. The aim: tungstenite's own time. So it
+# also prints what the rest is made of: the second read of each turn, which finds that nothing is left, and
+# what a link does itself, which is to hold what came, to hand on the text and to begin a new buffer for what
+# it sends.
 set -eu
 root=$(cd "$(dirname "$0")/../.." && pwd)
 command -v rt >/dev/null || { echo 'link.sh: skipped, there is no rt'; exit 0; }
@@ -15,7 +18,7 @@ cat >"$folder/crates/link_bench/src/main.rt" <<'END'
 // Texts of 32 bytes both ways through a link, through tungstenite alone, copied, and masked.
 #![tactic(auto)]
 
-use host_base::NoMemory;
+use host_base::{Bytes, NoMemory};
 use std::alloc::Global;
 use std::io;
 use std::time::Instant;
@@ -51,8 +54,9 @@ fn copy(buffer: &mut Vec<u8>, bytes: &[u8]) -> Result<usize, NoMemory> {
     Ok(buffer.len())
 }
 
-// Feeds a frame, reads its text and that no more has come, says the text, and takes its frame.
-fn by_link(alloc: Global, frame: &[u8]) -> Result<usize, NoMemory> {
+// Feeds a frame, reads its text and, where asked, that no more has come, says the text, and takes its frame.
+#[inline(never)]
+fn by_link(alloc: Global, frame: &[u8], twice: bool) -> Result<usize, NoMemory> {
     let mut link = Link::new(alloc, b"")?;
     let mut count: usize = 0;
     for _ in 0..ROUNDS {
@@ -60,8 +64,10 @@ fn by_link(alloc: Global, frame: &[u8]) -> Result<usize, NoMemory> {
         if let Linked::Text(text) = link.next() {
             count = count.wrapping_add(text.len());
         }
-        if let Linked::NotYet = link.next() {
-            count = count.wrapping_add(1);
+        if twice {
+            if let Linked::NotYet = link.next() {
+                count = count.wrapping_add(1);
+            }
         }
         if let Said::Done = link.say(TEXT) {
             count = count.wrapping_add(link.take_out().len());
@@ -70,7 +76,26 @@ fn by_link(alloc: Global, frame: &[u8]) -> Result<usize, NoMemory> {
     Ok(count)
 }
 
+// What a link does itself of the same: the frame is held and read from there, its text is handed on, and
+// what is sent begins a new buffer.
+#[inline(never)]
+fn by_hand(alloc: Global, frame: &[u8; 38]) -> Result<usize, NoMemory> {
+    let mut held = Vec::new(alloc);
+    let mut read = Vec::new(alloc);
+    let mut count: usize = 0;
+    for _ in 0..ROUNDS {
+        count = count.wrapping_add(copy(&mut held, frame)?);
+        count = count.wrapping_add(copy(&mut read, &held)?);
+        let text = Bytes::from_slice(alloc, &read[..read.len().min(32)])?;
+        count = count.wrapping_add(text.len());
+        let mut going = Vec::new(alloc);
+        count = count.wrapping_add(copy(&mut going, &frame[..34])?);
+    }
+    Ok(count)
+}
+
 // The same frames by tungstenite, from a slice with all of them and into one buffer.
+#[inline(never)]
 fn by_tungstenite(alloc: Global, frame: &[u8]) -> Result<usize, NoMemory> {
     let mut frames = Vec::new(alloc);
     for _ in 0..ROUNDS {
@@ -127,8 +152,14 @@ fn main(rt: HostRuntime) -> io::Result<()> {
     let frame = frame();
     for _ in 0..5 {
         let begun = Instant::now(&rt)?;
-        let count = by_link(rt.alloc(), &frame).unwrap_or(0);
+        let count = by_link(rt.alloc(), &frame, true).unwrap_or(0);
         report(&rt, "link", begun, count)?;
+        let begun = Instant::now(&rt)?;
+        let count = by_link(rt.alloc(), &frame, false).unwrap_or(0);
+        report(&rt, "once", begun, count)?;
+        let begun = Instant::now(&rt)?;
+        let count = by_hand(rt.alloc(), &frame).unwrap_or(0);
+        report(&rt, "hand", begun, count)?;
         let begun = Instant::now(&rt)?;
         let count = by_tungstenite(rt.alloc(), &frame).unwrap_or(0);
         report(&rt, "tungstenite", begun, count)?;
@@ -149,4 +180,7 @@ rt run >"$folder/times" 2>"$folder/log" || { tail -n 20 "$folder/log"; exit 1; }
 awk '!($1 in least) || $2 < least[$1] { least[$1] = $2 } END {
     link = least["link"]
     printf "link: %.0f ns for a text both ways, %.1f times copying, %.1f times masking, %.2f times tungstenite alone (aim: 1)\n", link / 100000, link / least["copies"], link / least["masks"], link / least["tungstenite"]
+    alone = least["tungstenite"]
+    empty = link - least["once"]
+    printf "its parts: %.0f ns tungstenite alone, %.0f ns the read that finds nothing, %.0f ns what a link does itself, together %.0f ns\n", alone / 100000, empty / 100000, least["hand"] / 100000, (alone + empty + least["hand"]) / 100000
 }' "$folder/times"
