@@ -9,7 +9,5 @@ mod give;
 mod hear;
 mod serve;
 mod stage;
-#[cfg(test)]
-mod tests;
 
 pub use conn::{Conn, Held};
