@@ -4,3 +4,5 @@ pub mod Rests
 pub mod Steps
 pub mod BodyLaws
 pub mod Refusals
+pub mod DigitLaws
+pub mod FramingLaws

@@ -1,6 +1,6 @@
 -- The words and values of a field, line by line.
 use Rattle.std.proofs.Common.{◌≡◌, ℕ, zero, suc, ◌+◌, ◌<◌, ◌≤◌, ◌^◌, Bool, true, false, cond, List, [], ◌∷◌, length, map, filter, drop, get_or, min, refl, sym, ap, ◌∙◌, arith, length-append, Option, Some, None, inl, inr, ltb, eqb, zero-add, Ok, Err}
-use Rattle.std.specs.Prelude.{◌&&◌, ◌||◌, codes}
+use Rattle.std.specs.Prelude.{◌&&◌, codes}
 use Rattle.std.specs.List.{list_any, list_all, slice_split, find, flat_map, fold}
 use Rattle.std.proofs.lemmas.List.{at_drop_more, at_drop_all}
 use Rattle.std.proofs.lemmas.Bool.{cond-true, cond-false, lt-ltb, le-ltb, ltb-false, ne_eqb}
@@ -15,7 +15,7 @@ use Rattle.host_base.specs.declared.cause.Cause.TheVariants.{BadFraming, CodingU
 use Rattle.host_base.specs.declared.request.Framing.TheVariants.{Empty, Chunked}
 use Rattle.host_base.proofs.SplitLaws.{chosen}
 use Rattle.host_base.proofs.AnyLaws.{list_any-map, list_any-flat_map}
-use Rattle.body_framing.specs.Framing.{framing_of, has_field, is_v10, framing_by_codings, framing_by_digits, framing_by_lengths, framing_by_number, is_length, is_other_coding, is_other_word, length_digits, names_length, number_of, with_decimal}
+use Rattle.body_framing.specs.Framing.{framing_of, has_field, is_codings_refused, framing_by_codings, framing_by_digits, framing_by_lengths, framing_by_number, is_length, is_other_coding, is_other_word, length_digits, names_length, number_of, with_decimal}
 
 -- ---- words
 
@@ -187,13 +187,13 @@ framing_without head limits fields is none =
     ∙ sym (cond-false _ _ _ (ap (has_field (codes "Transfer-Encoding")) (sym is) ∙ none))
 
 pub framing_refused : (head : Head) (limits : Limits) (fields : List Field) → fields ≡ head.fields → has_field (codes "Transfer-Encoding") fields ≡ true
-    → (is_v10 head.version || has_field (codes "Content-Length") head.fields) ≡ true → Err BadFraming ≡ framing_of head limits
+    → is_codings_refused head ≡ true → Err BadFraming ≡ framing_of head limits
 unfolding framing_of
 framing_refused head limits fields is some out =
     sym (cond-true _ _ _ (ap (has_field (codes "Transfer-Encoding")) (sym is) ∙ some) ∙ cond-true _ _ _ out)
 
 pub framing_coded : (head : Head) (limits : Limits) (fields : List Field) → fields ≡ head.fields → has_field (codes "Transfer-Encoding") fields ≡ true
-    → (is_v10 head.version || has_field (codes "Content-Length") head.fields) ≡ false
+    → is_codings_refused head ≡ false
     → framing_by_codings (field_words (codes "Transfer-Encoding") fields) ≡ framing_of head limits
 unfolding framing_of
 framing_coded head limits fields is some fine =

@@ -84,9 +84,11 @@ is_v10 V10 = true
 is_v10 V11 = false
 
 -- transfer codings are of HTTP/1.1, and stand beside no Content-Length (RFC 9112 6.1)
+abbrev pub is_codings_refused : Head → Bool
+is_codings_refused head = is_v10 head.version || has_field (codes "Content-Length") head.fields
+
 unfoldable pub framing_of : Head → Limits → Result Framing Cause
 framing_of head limits =
     if has_field (codes "Transfer-Encoding") head.fields
-    then (if is_v10 head.version || has_field (codes "Content-Length") head.fields then Err BadFraming
-    else framing_by_codings (field_words (codes "Transfer-Encoding") head.fields))
+    then (if is_codings_refused head then Err BadFraming else framing_by_codings (field_words (codes "Transfer-Encoding") head.fields))
     else framing_by_lengths limits.body (values_named (codes "Content-Length") head.fields)

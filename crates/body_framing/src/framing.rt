@@ -1,9 +1,9 @@
 // How the body of a request is delimited (RFC 9112 6.3).
-ghost use Rattle.std.specs.Prelude.{◌≡◌, ◌==◌, ◌||◌, Ok, Err, filter, find, codes, if◌then◌else◌};
+ghost use Rattle.std.specs.Prelude.{◌≡◌, ◌==◌, Ok, Err, filter, find, codes, if◌then◌else◌};
 ghost use Rattle.std.specs.List.{list_all};
 ghost use Rattle.std.specs.Option.{option_copied};
 ghost use Rattle.host_base.specs.FieldLists.{field_words, is_named, values_named};
-ghost use Rattle.body_framing.specs.Framing.{framing_by_codings, framing_by_lengths, framing_by_number, framing_of, has_field, is_length, is_v10, number_of};
+ghost use Rattle.body_framing.specs.Framing.{framing_by_codings, framing_by_lengths, framing_by_number, framing_of, has_field, is_codings_refused, is_length, number_of};
 
 use crate::lengths::{is_length, length_digits, number_of};
 use crate::words::{count_field_words, has_other_word};
@@ -93,7 +93,7 @@ fn framing_by_lengths(limit: u64, fields: &[Field]) -> Result<Framing, Cause>
 
 // Whether a transfer coding may not stand in the head.
 fn is_codings_refused(head: &Head) -> bool
-    ensures { result ≡ (is_v10 head.now.version || has_field (codes "Content-Length") head.now.fields) }
+    ensures { result ≡ is_codings_refused head.now }
 {
     head.version == Version::V10 || has_field(head.fields.as_slice(), b"Content-Length")
 }

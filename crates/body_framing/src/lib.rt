@@ -13,7 +13,8 @@ mod words;
 pub use chunks::Chunks;
 pub use framing::framing_of;
 pub use laws::{
-    bodies_are_read, bodies_are_unique, readings_stay, refused_are_none, unended_go_on,
+    bodies_are_read, bodies_are_unique, bodiless_have_neither, chunks_are_coded, framing_causes,
+    lengths_are_named, readings_stay, refused_are_none, two_framings_are_refused, unended_go_on,
 };
 pub use place::Place;
 pub use step::ChunkStep;

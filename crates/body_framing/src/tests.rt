@@ -191,27 +191,6 @@ fn bodies_however_they_are_cut(rt: HostRuntime) {
     }
 }
 
-// The same for a long text: cut at every 31st place and at the places before and at the end.
-fn is_read_cut_in_places(
-    alloc: Global,
-    text: &[u8],
-    due: (usize, Option<Cause>),
-) -> Result<bool, NoMemory> {
-    for count in 0..text.len() / 31 + 1 {
-        let cut = (count.saturating_mul(31), text.len());
-        if !is_read(alloc, 5, text, cut, due, None)? {
-            return Ok(false);
-        }
-    }
-    for before in 0..16 {
-        let cut = (due.0.saturating_sub(before), 1);
-        if !is_read(alloc, 5, text, cut, due, None)? {
-            return Ok(false);
-        }
-    }
-    is_read(alloc, 5, text, (0, 1), due, None)
-}
-
 fn long_body(
     alloc: Global,
     before: &[u8],
@@ -231,7 +210,7 @@ fn the_limits_edges(rt: HostRuntime) {
     for (before, times, after, end, cause) in LONG_BODIES.iter() {
         match long_body(rt.alloc(), before, *times, after) {
             Ok(text) => {
-                let right = is_read_cut_in_places(rt.alloc(), &text, (*end, *cause));
+                let right = is_read_however_cut(rt.alloc(), 5, &text, (*end, *cause), None);
                 assert!(&rt; right == Ok(true), "{}", times);
             }
             Err(_) => panic!(&rt; "no memory"),
