@@ -28,7 +28,9 @@ use Rattle.reply_stream.specs.declared.asked.Asked.{Asked}
 use Rattle.reply_stream.specs.declared.stage.Flow.TheVariants.{Plain}
 use Rattle.reply_stream.specs.declared.stage.Opening.{Opening}
 use Rattle.reply_stream.specs.declared.stage.Opening.TheVariants.{Wait, Settle, Begin}
-use Rattle.reply_stream.specs.Openings.{IsUnread, Opens, OpensAfter, OpensByKind}
+use Rattle.reply_stream.specs.declared.stage.Header.{Header}
+use Rattle.reply_stream.specs.declared.stage.Header.TheVariants as Seen
+use Rattle.reply_stream.specs.Openings.{IsUnread, Opens, OpensAfter, OpensByKind, Tells, header_by}
 use Rattle.reply_stream.specs.Stages.{IsSettled, flow_by, flow_by_reply, opening_of, piece_text_of}
 use Rattle.reply_stream.specs.Writing.{IsPartOf, begun_way}
 use Rattle.reply_stream.proofs.PartLaws.{reply_goes_on}
@@ -203,3 +205,35 @@ pub opens_whole_result : {E : Type 0} (result : Result Opening E) (asked : Asked
     → IfOk result (Opens asked close stamp output)
 opens_whole_result (Ok opening) asked close stamp output head used cgi is opens = opens_whole asked close stamp output head used opening cgi is opens
 opens_whole_result (Err e) asked close stamp output head used cgi is opens = tt
+
+-- ---- what a header tells
+
+pub tells_more : (output : List ℕ) → read_header output ≡ More → Tells Cgi output Seen.Open
+tells_more output is = (unread_cgi output is).open_yet
+
+pub tells_bad : (output : List ℕ) (cause : Cause) → read_header output ≡ Bad cause → Tells Cgi output Seen.Settled
+tells_bad output cause is = settled_cgi output (λ e. cc (sym is ∙ e)) (ap is_streamable_step is)
+
+tells_kind : (output : List ℕ) (head : CgiHead) (used : ℕ) (kind : Result ReplyKind Cause) → read_header output ≡ Whole head used → kind_of head ≡ kind
+    → Tells Cgi output (header_by kind)
+unfolding is_streamable
+tells_kind output head used (Ok Document) is kind = ap is_streamable_step is ∙ ap has_document kind
+tells_kind output head used (Ok RedirectDocument) is kind = ap is_streamable_step is ∙ ap has_document kind
+tells_kind output head used (Ok LocalRedirect) is kind = settled_cgi output (λ e. cc (sym is ∙ e)) (ap is_streamable_step is ∙ ap has_document kind)
+tells_kind output head used (Ok Redirect) is kind = settled_cgi output (λ e. cc (sym is ∙ e)) (ap is_streamable_step is ∙ ap has_document kind)
+tells_kind output head used (Err cause) is kind = settled_cgi output (λ e. cc (sym is ∙ e)) (ap is_streamable_step is ∙ ap has_document kind)
+
+pub tells_whole : (output : List ℕ) (head : CgiHead) (used : ℕ) (header : Header) → read_header output ≡ Whole head used → header ≡ header_by (kind_of head)
+    → Tells Cgi output header
+tells_whole output head used header is same = subst (Tells Cgi output) (sym same) (tells_kind output head used (kind_of head) is refl)
+
+pub tells_empty : (output : List ℕ) → (length output == 0) ≡ true → Tells Nph output Seen.Open
+tells_empty [] none = unread_nph.open_yet
+tells_empty (byte ∷ output) none = absurd (let zero : length (byte ∷ output) ≡ 0 = eqb-true _ 0 none in omega (arith, zero))
+
+pub tells_raw : (output : List ℕ) → (length output == 0) ≡ false → Tells Nph output Seen.Ready
+tells_raw [] some = absurd (cc)
+tells_raw (byte ∷ output) some = can_raw byte output
+
+pub tells_web : (output : List ℕ) → Tells WebSocket output Seen.Settled
+tells_web output = settled_web output

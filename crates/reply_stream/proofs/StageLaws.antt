@@ -1,34 +1,43 @@
 -- What a stream keeps stands for what it was told, step by step.
 use Rattle.std.proofs.Common.{◌≡◌, ◌≤◌, ◌<◌, ℕ, Bool, true, false, List, [], ◌∷◌, ◌++◌, length, drop, refl, sym, ap, ◌∙◌, arith, ltb, append_assoc, Option, subst, Result, Ok, Err, inl, inr}
-use Rattle.std.specs.Prelude.{◌&&◌, ◌||◌, ◌⊎◌, if◌then◌else◌, IfOk}
+use Rattle.std.specs.Prelude.{◌&&◌, ◌||◌, ◌==◌, ◌⊎◌, nat_le, None, Some, is_some, option_map, if◌then◌else◌, IfOk, OnErr}
 use Rattle.std.proofs.Math.Bool.{and-false}
 use Rattle.std.proofs.lemmas.Bool.{and_parts, and_from, le-ltb, lt-ltb, or_left, or_right}
-use Rattle.std.proofs.lemmas.List.{append-nil}
+use Rattle.std.proofs.lemmas.List.{append-nil, take_all}
 use Rattle.host_base.specs.declared.cause.Cause.{Cause}
 use Rattle.host_base.specs.declared.site.ScriptKind.{ScriptKind}
 use Rattle.host_base.specs.declared.site.ScriptKind.TheVariants.{Cgi, Nph, WebSocket}
 use Rattle.cgi_header.specs.declared.header.CgiHead.{CgiHead}
 use Rattle.cgi_header.specs.declared.header.HdrStep.{HdrStep}
 use Rattle.cgi_header.specs.declared.header.HdrStep.TheVariants.{Whole, More, Bad}
-use Rattle.cgi_header.specs.ScriptHeader.{read_header}
+use Rattle.host_base.specs.declared.cause.Cause.TheVariants.{HeaderTooLarge}
+use Rattle.cgi_header.specs.ScriptHeader.{most_header, read_header, step_by_front}
 use Rattle.reply_kinds.specs.declared.derived.Derived.{Derived}
 use Rattle.reply_kinds.specs.declared.derived.Derived.TheVariants as Output
 use Rattle.reply_kinds.specs.declared.kind.ReplyKind.{ReplyKind}
 use Rattle.reply_kinds.specs.declared.kind.ReplyKind.TheVariants.{Document, LocalRedirect, Redirect, RedirectDocument}
-use Rattle.reply_kinds.specs.Derived.{derived_by_kind, derived_by_step, derived_of, is_header_whole, is_streamable}
+use Rattle.reply_kinds.specs.Derived.{derived_by_kind, derived_by_step, derived_of, is_header_whole, is_streamable, is_whole}
 use Rattle.reply_kinds.specs.Kind.{kind_of}
-use Rattle.reply_writer.specs.WholeReply.{Way}
-use Rattle.reply_kinds.proofs.DerivedLaws.{headers_come_first}
+use Rattle.reply_writer.specs.declared.shape.Shape.{Shape}
+use Rattle.reply_writer.specs.declared.shape.Shape.TheVariants.{Bare, Length, Chunked, ToClose}
+use Rattle.reply_writer.specs.WholeReply.{Way, shape_of}
+use Rattle.reply_kinds.proofs.DerivedLaws.{begun_goes_on, headers_come_first}
 use Rattle.reply_stream.specs.declared.asked.Asked.{Asked}
 use Rattle.reply_stream.specs.declared.stage.Flow.{Flow}
 use Rattle.reply_stream.specs.declared.stage.Flow.TheVariants.{Nothing, Mark, Chunks, Plain}
 use Rattle.reply_stream.specs.declared.stage.Stage.{Stage}
-use Rattle.reply_stream.specs.declared.stage.Stage.TheVariants.{Waiting, Settled, Going}
+use Rattle.reply_stream.specs.declared.stage.Stage.TheVariants.{Waiting, Ready, Settled, Going}
+use Rattle.reply_stream.specs.declared.stage.Header.{Header}
+use Rattle.reply_stream.specs.declared.stage.Header.TheVariants as Seen
 use Rattle.reply_stream.specs.declared.stream.Last.{Last}
 use Rattle.reply_stream.specs.declared.stream.Last.TheVariants.{Written}
 use Rattle.reply_stream.specs.Hearing.{Told, piece, tick, output_of, is_long_enough, is_ticked, most_kept, must_begin}
-use Rattle.reply_stream.specs.Openings.{Begins, IsUnread}
-use Rattle.reply_stream.specs.Stages.{IsAt, IsAtStage, IsGoing, IsSettled, IsSettledAt, IsWaiting, Looks, State, Writes, end_text_of, flow_by, piece_text_of}
+use Rattle.head_lines.specs.Lines.{Front, IsSearched, front_len, front_of, front_of_parts}
+use Rattle.head_lines.specs.declared.search.Search.{Search}
+use Rattle.head_lines.proofs.SearchLaws.{searched-append}
+use Rattle.reply_stream.specs.Memory.{IsChunked, NeedsAtEnd, NeedsAtTick}
+use Rattle.reply_stream.specs.Openings.{Begins, IsUnread, Tells, stage_by}
+use Rattle.reply_stream.specs.Stages.{IsAt, IsAtStage, IsGoing, IsHolding, IsReady, IsSettled, IsSettledAt, IsSoughtIn, IsWaiting, Joins, Looks, Reads, StaysAt, State, Writes, end_text_of, flow_by, flow_of, has_mark, is_holding, piece_text_of}
 use Rattle.reply_stream.specs.StageRules.{BeginningsAreWritten, StandingsHold}
 use Rattle.reply_stream.specs.Writing.{Stood, nothing, begun, begun_way, whole_way, stood_next, IsLast, IsLastOf, IsPartOf, IsQuiet, IsSoFar, IsWholeOf}
 use Rattle.reply_stream.proofs.HearingLaws.{beginnings_stay, output-piece, output-tick, ticked-piece, ticked-tick}
@@ -56,10 +65,10 @@ writes_begun asked told close stamp text state due is_at =
 
 -- ---- nothing stands
 
-waiting_is_not_due : (asked : Asked) (told : List Told) (held : List ℕ) → IsWaiting asked told held → must_begin asked.kind told ≡ false
-waiting_is_not_due asked told held waits =
-    let short : ltb most_kept (length (output_of told)) ≡ false = le-ltb most_kept (length (output_of told)) (subst (λ (l : List ℕ). length l ≤ most_kept) waits.held_is waits.short) in
-    let long : is_long_enough asked.kind told ≡ false = ap (λ (b : Bool). b || is_ticked asked.kind told) short ∙ waits.unticked in
+holding_is_not_due : (asked : Asked) (told : List Told) (held : List ℕ) → IsHolding asked told held → must_begin asked.kind told ≡ false
+holding_is_not_due asked told held holds =
+    let short : ltb most_kept (length (output_of told)) ≡ false = le-ltb most_kept (length (output_of told)) (subst (λ (l : List ℕ). length l ≤ most_kept) holds.held_is holds.short) in
+    let long : is_long_enough asked.kind told ≡ false = ap (λ (b : Bool). b || is_ticked asked.kind told) short ∙ holds.unticked in
     ap (λ (b : Bool). is_streamable asked.kind (output_of told) && b) long ∙ and-false (is_streamable asked.kind (output_of told))
 
 settled_is_not_due : (asked : Asked) (told : List Told) (held : List ℕ) → IsSettledAt asked told held → must_begin asked.kind told ≡ false
@@ -67,29 +76,66 @@ settled_is_not_due asked told held at =
     let never : is_streamable asked.kind (output_of told) ≡ false = ap (is_streamable asked.kind) at.output ∙ at.settled.never at.rest in
     ap (λ (b : Bool). b && is_long_enough asked.kind told) never
 
-at_waiting : (asked : Asked) (told : List Told) (state : State) → state.asked ≡ asked → state.stage ≡ Waiting → IsWaiting asked told state.held
-    → IsAt asked told nothing state
-at_waiting asked told state asked_is stage waits = record {
-  asked_is = asked_is;
-  stage_is = subst (λ (s : Stage). IsAtStage asked told state.held s nothing) (sym stage) waits;
+-- by the stage at which all is held
+pub holds_at : (asked : Asked) (told : List Told) (held : List ℕ) (stage : Stage) (stood : Stood) → is_holding stage ≡ true
+    → IsAtStage asked told held stage stood → (stood ≡ nothing) × IsHolding asked told held
+holds_at asked told held (Waiting search) nothing is at = (refl, at.holding)
+holds_at asked told held Ready nothing is at = (refl, at.holding)
+holds_at asked told held Settled stood is at = absurd (cc)
+holds_at asked told held (Going flow) stood is at = absurd (cc)
+holds_at asked told held (Waiting search) (begun close stamp bytes) is at = absurd at
+holds_at asked told held Ready (begun close stamp bytes) is at = absurd at
+
+stage_at : (asked : Asked) (told : List Told) (state : State) (stage : Stage) (stood : Stood) → state.asked ≡ asked → state.stage ≡ stage
+    → IsAtStage asked told state.held stage stood → IsAt asked told stood state
+stage_at asked told state stage stood asked_is is at =
+    record { asked_is = asked_is; stage_is = subst (λ (s : Stage). IsAtStage asked told state.held s stood) (sym is) at }
+
+at_of : (asked : Asked) (told : List Told) (state : State) (stage : Stage) (stood : Stood) → state.stage ≡ stage → IsAt asked told stood state
+    → IsAtStage asked told state.held stage stood
+at_of asked told state stage stood is is_at = subst (λ (s : Stage). IsAtStage asked told state.held s stood) is is_at.stage_is
+
+none_yet : (kind : ScriptKind) → is_header_whole kind [] ≡ false
+unfolding is_header_whole read_header front_of_parts
+none_yet Cgi = refl
+none_yet Nph = refl
+none_yet WebSocket = refl
+
+pub made : (asked : Asked) (search : Search) → IsAt asked [] nothing (record { asked = asked; held = []; stage = Waiting search })
+made asked search = record {
+  asked_is = refl;
+  stage_is = record { holding = record { held_is = refl; short = omega arith; unticked = refl }; open_yet = none_yet asked.kind };
 }
 
-pub made : (asked : Asked) → IsAt asked [] nothing (record { asked = asked; held = []; stage = Waiting })
-made asked = record { asked_is = refl; stage_is = record { held_is = refl; short = omega arith; unticked = refl } }
+-- where the reply has not begun, and what is held is short
+pub still_holds : (asked : Asked) (told : List Told) (close : Bool) (stamp : Option ℕ) (state : State) → is_holding state.stage ≡ true
+    → IsAt asked told nothing state → Writes asked told close stamp nothing [] state
+still_holds asked told close stamp state is is_at =
+    writes_nothing asked told close stamp state
+    (holding_is_not_due asked told state.held (holds_at asked told state.held state.stage nothing is is_at.stage_is).1) is_at
 
-pub waits_on : (asked : Asked) (told : List Told) (close : Bool) (stamp : Option ℕ) (state : State) → state.asked ≡ asked → state.stage ≡ Waiting
-    → IsWaiting asked told state.held → Writes asked told close stamp nothing [] state
-waits_on asked told close stamp state asked_is stage waits =
-    writes_nothing asked told close stamp state (waiting_is_not_due asked told state.held waits) (at_waiting asked told state asked_is stage waits)
+settled_not : (asked : Asked) (told : List Told) (held : List ℕ) (stage : Stage) → IsAtStage asked told held stage nothing → must_begin asked.kind told ≡ false
+settled_not asked told held (Waiting search) at = holding_is_not_due asked told held at.holding
+settled_not asked told held Ready at = holding_is_not_due asked told held at.holding
+settled_not asked told held Settled at = settled_is_not_due asked told held at
+settled_not asked told held (Going flow) at = absurd at
+
+-- .. wherever nothing stands
+pub stands_still : (asked : Asked) (told : List Told) (close : Bool) (stamp : Option ℕ) (state : State) → IsAt asked told nothing state
+    → Writes asked told close stamp nothing [] state
+stands_still asked told close stamp state is_at =
+    writes_nothing asked told close stamp state (settled_not asked told state.held state.stage is_at.stage_is) is_at
 
 -- ---- what is held is read
 
-pub looked_open : (asked : Asked) (told : List Told) (close : Bool) (stamp : Option ℕ) (state : State) → Looks asked told state → state.stage ≡ Waiting
+pub looked_open : (asked : Asked) (told : List Told) (close : Bool) (stamp : Option ℕ) (state : State) → Looks asked told state
     → IsUnread state.asked.kind state.held → Writes asked told close stamp nothing [] state
-looked_open asked told close stamp state looks stage unread =
+looked_open asked told close stamp state looks unread =
     let open_yet : is_header_whole asked.kind (output_of told) ≡ false =
     ap (λ (a : Asked). is_header_whole a.kind (output_of told)) (sym looks.asked_is) ∙ ap (is_header_whole state.asked.kind) (sym looks.held_is) ∙ unread.open_yet in
-    waits_on asked told close stamp state looks.asked_is stage (record { held_is = looks.held_is; short = unread.short; unticked = looks.unticked open_yet })
+    let long : most_kept < length (output_of told) = looks.long open_yet in
+    let short : length (output_of told) ≤ most_kept = subst (λ (l : List ℕ). length l ≤ most_kept) looks.held_is unread.short in
+    absurd (omega (arith, long, short))
 
 pub looked_settled : (asked : Asked) (told : List Told) (close : Bool) (stamp : Option ℕ) (state : State) → Looks asked told state
     → IsSettled state.asked.kind state.held → Writes asked told close stamp nothing [] (record state { stage = Settled })
@@ -116,54 +162,164 @@ looked_begun asked told close stamp state flow text looks begins =
       stage_is = record { due = due; part = same.part; flow_is = same.flow_is };
     })
 
+-- ---- a header that may be whole
+
+-- no empty line ends in what is held
+pub no_end : (held : List ℕ) → length held ≤ most_kept → front_len held ≡ None → is_header_whole Cgi held ≡ false
+unfolding is_header_whole read_header
+no_end held short none = ap (λ (l : List ℕ). is_whole (step_by_front (length held) (front_of l))) (take_all most_header held short) ∙ no_front (front_of held) none (length held)
+  where
+    either : (b : Bool) → is_whole (if b then Bad HeaderTooLarge else More) ≡ false
+    either true = refl
+    either false = refl
+
+    no_front : (o : Option Front) → option_map (λ (front : Front). front.len) o ≡ None → (n : ℕ) → is_whole (step_by_front n o) ≡ false
+    no_front None is n = either (nat_le most_header n)
+    no_front (Some front) is n = absurd (cc)
+
+pub read_open : (asked : Asked) (told : List Told) (state : State) (search : Search) → Reads asked told state → is_header_whole state.asked.kind state.held ≡ false
+    → IsAt asked told nothing (record state { stage = Waiting search })
+read_open asked told state search reads open_yet = record {
+  asked_is = reads.asked_is;
+  stage_is = record { holding = reads.holding; open_yet = ap (λ (a : Asked). is_header_whole a.kind state.held) (sym reads.asked_is) ∙ open_yet };
+}
+
+none_of : (found : Option ℕ) → is_some found ≡ false → found ≡ None
+none_of None is = refl
+none_of (Some n) is = absurd (cc)
+
+-- no empty line was found
+pub read_none : (asked : Asked) (told : List Told) (state : State) (search : Search) (found : Option ℕ) → Reads asked told state → state.asked.kind ≡ Cgi
+    → found ≡ front_len state.held → is_some found ≡ false → IsAt asked told nothing (record state { stage = Waiting search })
+read_none asked told state search found reads cgi is none =
+    read_open asked told state search reads
+    (ap (λ (k : ScriptKind). is_header_whole k state.held) cgi ∙ no_end state.held reads.holding.short (sym is ∙ none_of found none))
+
+pub read_to : (asked : Asked) (told : List Told) (state : State) (search : Search) (header : Header) → Reads asked told state → Tells state.asked.kind state.held header
+    → IsAt asked told nothing (record state { stage = stage_by search header })
+read_to asked told state search Seen.Open reads tells = read_open asked told state search reads tells
+read_to asked told state search Seen.Settled reads tells = record {
+  asked_is = reads.asked_is;
+  stage_is = record {
+    rest = [];
+    output = sym reads.holding.held_is ∙ sym (append-nil state.held);
+    settled = subst (λ (a : Asked). IsSettled a.kind state.held) reads.asked_is tells;
+  };
+}
+read_to asked told state search Seen.Ready reads tells = record {
+  asked_is = reads.asked_is;
+  stage_is = record { holding = reads.holding; can = ap (λ (a : Asked). is_streamable a.kind state.held) (sym reads.asked_is) ∙ tells };
+}
+
+-- what is read stays searched
+pub sought_read : (held : List ℕ) (search : Search) (header : Header) → IsSearched held search.start search.seen → IsSoughtIn held (stage_by search header)
+sought_read held search Seen.Open searched = searched
+sought_read held search Seen.Settled searched = tt
+sought_read held search Seen.Ready searched = tt
+
 -- ---- a piece and a tick while all is held
 
-was_waiting : (asked : Asked) (told : List Told) (stood : Stood) (state : State) → state.stage ≡ Waiting → IsAt asked told stood state
-    → (stood ≡ nothing) × IsWaiting asked told state.held
-was_waiting asked told nothing state stage is_at = (refl, subst (λ (s : Stage). IsAtStage asked told state.held s nothing) stage is_at.stage_is)
-was_waiting asked told (begun close stamp bytes) state stage is_at =
-    absurd (subst (λ (s : Stage). IsAtStage asked told state.held s (begun close stamp bytes)) stage is_at.stage_is)
+stays_at : (asked : Asked) (told : List Told) (held bytes : List ℕ) (stage : Stage) → is_holding stage ≡ true → IsAtStage asked told held stage nothing
+    → StaysAt asked.kind (held ++ bytes) stage
+stays_at asked told held bytes (Waiting search) is at = tt
+stays_at asked told held bytes Ready is at = (begun_goes_on asked.kind held bytes at.can).2
+stays_at asked told held bytes Settled is at = absurd (cc)
+stays_at asked told held bytes (Going flow) is at = absurd (cc)
 
-held_piece : (told : List Told) (held bytes joined : List ℕ) → held ≡ output_of told → joined ≡ held ++ bytes → joined ≡ output_of (told ++ piece bytes ∷ [])
-held_piece told held bytes joined is joins = joins ∙ ap (λ (l : List ℕ). l ++ bytes) is ∙ sym (output-piece told bytes)
-
--- a piece after which what is held is short
-pub holds_on : (asked : Asked) (told : List Told) (close : Bool) (stamp : Option ℕ) (bytes : List ℕ) (old new : State) → IsAt asked told nothing old
-    → old.stage ≡ Waiting → new.asked ≡ old.asked → new.stage ≡ Waiting → new.held ≡ old.held ++ bytes → length new.held ≤ most_kept
-    → Writes asked (told ++ piece bytes ∷ []) close stamp nothing [] new
-holds_on asked told close stamp bytes old new is_at stage asked_is stage_new joins short =
-    let waits = (was_waiting asked told nothing old stage is_at).1 in
-    waits_on asked (told ++ piece bytes ∷ []) close stamp new (asked_is ∙ is_at.asked_is) stage_new
-    (record { held_is = held_piece told old.held bytes new.held waits.held_is joins; short = short; unticked = ticked-piece asked.kind told bytes ∙ waits.unticked })
-
--- .. and one after which it is long
-pub looks_long : (asked : Asked) (told : List Told) (bytes : List ℕ) (old new : State) → IsAt asked told nothing old → old.stage ≡ Waiting
-    → new.asked ≡ old.asked → new.held ≡ old.held ++ bytes → most_kept < length new.held → Looks asked (told ++ piece bytes ∷ []) new
-looks_long asked told bytes old new is_at stage asked_is joins long =
-    let waits = (was_waiting asked told nothing old stage is_at).1 in
-    let held_is : new.held ≡ output_of (told ++ piece bytes ∷ []) = held_piece told old.held bytes new.held waits.held_is joins in
+-- all is held with a piece more
+pub joins : (asked : Asked) (told : List Told) (bytes : List ℕ) (old new : State) → is_holding old.stage ≡ true → IsAt asked told nothing old
+    → new.asked ≡ old.asked → new.stage ≡ old.stage → new.held ≡ old.held ++ bytes → Joins asked (told ++ piece bytes ∷ []) new
+joins asked told bytes old new is is_at asked_is stage_is joined =
+    let holds = (holds_at asked told old.held old.stage nothing is is_at.stage_is).1 in
     record {
       asked_is = asked_is ∙ is_at.asked_is;
-      held_is = held_is;
-      due = λ whole. or_left _ _ (lt-ltb most_kept _ (subst (λ (l : List ℕ). most_kept < length l) held_is long));
-      unticked = λ open_yet. ticked-piece asked.kind told bytes ∙ waits.unticked;
+      held_is = joined ∙ ap (λ (l : List ℕ). l ++ bytes) holds.held_is ∙ sym (output-piece told bytes);
+      unticked = ticked-piece asked.kind told bytes ∙ holds.unticked;
+      stays =
+          subst (λ (l : List ℕ). StaysAt asked.kind l new.stage) (sym joined)
+          (subst (λ (s : Stage). StaysAt asked.kind (old.held ++ bytes) s) (sym stage_is) (stays_at asked told old.held bytes old.stage is is_at.stage_is));
     }
 
-pub looks_ticked : (asked : Asked) (told : List Told) (state : State) → IsAt asked told nothing state → state.stage ≡ Waiting
-    → Looks asked (told ++ tick ∷ []) state
-looks_ticked asked told state is_at stage =
-    let waits = (was_waiting asked told nothing state stage is_at).1 in
-    let output = output-tick told in
+-- .. and the search stands in it
+pub sought_joined : (held bytes : List ℕ) (stage : Stage) → IsSoughtIn held stage → IsSoughtIn (held ++ bytes) stage
+sought_joined held bytes (Waiting search) sought = searched-append held bytes search.start search.seen sought
+sought_joined held bytes Ready sought = tt
+sought_joined held bytes Settled sought = tt
+sought_joined held bytes (Going flow) sought = tt
+
+pub joined_looks : (asked : Asked) (told : List Told) (state : State) → Joins asked told state → most_kept < length state.held → Looks asked told state
+joined_looks asked told state at long =
+    let far : most_kept < length (output_of told) = subst (λ (l : List ℕ). most_kept < length l) at.held_is long in
     record {
-      asked_is = is_at.asked_is;
-      held_is = waits.held_is ∙ sym output;
-      due = λ whole. or_right _ _ (ticked-tick asked.kind told ∙ or_right _ _ (ap (is_header_whole asked.kind) (sym output) ∙ whole));
-      unticked = λ open_yet.
-          ticked-tick asked.kind told
-          ∙ ap (λ (b : Bool). b || is_header_whole asked.kind (output_of told)) waits.unticked
-          ∙ ap (is_header_whole asked.kind) (sym output)
-          ∙ open_yet;
+      asked_is = at.asked_is;
+      held_is = at.held_is;
+      due = λ whole. or_left _ _ (lt-ltb most_kept _ far);
+      long = λ open_yet. far;
     }
+
+pub joined_reads : (asked : Asked) (told : List Told) (state : State) → Joins asked told state → length state.held ≤ most_kept → Reads asked told state
+joined_reads asked told state at short =
+    record { asked_is = at.asked_is; holding = record { held_is = at.held_is; short = short; unticked = at.unticked } }
+
+joined_at : (asked : Asked) (told : List Told) (held : List ℕ) (stage : Stage) → IsHolding asked told held → ((search : Search) → stage ≡ Waiting search → ⊥)
+    → StaysAt asked.kind held stage → IsAtStage asked told held stage nothing
+joined_at asked told held (Waiting search) holds not_waiting stays = absurd (not_waiting search refl)
+joined_at asked told held Ready holds not_waiting stays = record { holding = holds; can = stays }
+joined_at asked told held Settled holds not_waiting stays = absurd stays
+joined_at asked told held (Going flow) holds not_waiting stays = absurd stays
+
+-- where it could begin before
+pub joined_stays : (asked : Asked) (told : List Told) (close : Bool) (stamp : Option ℕ) (state : State) → Joins asked told state → length state.held ≤ most_kept
+    → ((search : Search) → state.stage ≡ Waiting search → ⊥) → Writes asked told close stamp nothing [] state
+joined_stays asked told close stamp state at short not_waiting =
+    stands_still asked told close stamp state (record {
+      asked_is = at.asked_is;
+      stage_is = joined_at asked told state.held state.stage (joined_reads asked told state at short).holding not_waiting at.stays;
+    })
+
+-- a tick where the reply can begin
+pub looks_ticked : (asked : Asked) (told : List Told) (stood : Stood) (state : State) → state.stage ≡ Ready → IsAt asked told stood state
+    → (stood ≡ nothing) × (Looks asked (told ++ tick ∷ []) state × (must_begin asked.kind (told ++ tick ∷ []) ≡ true))
+looks_ticked asked told (begun close stamp bytes) state stage is_at = absurd (at_of asked told state Ready (begun close stamp bytes) stage is_at)
+looks_ticked asked told nothing state stage is_at =
+    let ready : IsReady asked told state.held = at_of asked told state Ready nothing stage is_at in
+    let output = output-tick told in
+    let held_is : state.held ≡ output_of (told ++ tick ∷ []) = ready.holding.held_is ∙ sym output in
+    let can : is_streamable asked.kind (output_of (told ++ tick ∷ [])) ≡ true = ap (is_streamable asked.kind) (sym held_is) ∙ ready.can in
+    let whole : is_header_whole asked.kind (output_of told) ≡ true =
+    ap (is_header_whole asked.kind) (sym ready.holding.held_is) ∙ (headers_come_first asked.kind state.held []).0 ready.can in
+    let long : is_long_enough asked.kind (told ++ tick ∷ []) ≡ true = or_right _ _ (ticked-tick asked.kind told ∙ or_right _ _ whole) in
+    let looks : Looks asked (told ++ tick ∷ []) state = record {
+      asked_is = is_at.asked_is;
+      held_is = held_is;
+      due = λ now. long;
+      long = λ open_yet. absurd (cc (sym open_yet ∙ ap (is_header_whole asked.kind) output ∙ whole));
+    } in
+    (refl, (looks, and_from _ _ can long))
+
+-- a tick before the header is whole
+waits_on : (asked : Asked) (told : List Told) (held : List ℕ) → IsWaiting asked told held → IsWaiting asked (told ++ tick ∷ []) held
+waits_on asked told held waits = record {
+  holding = record {
+    held_is = waits.holding.held_is ∙ sym (output-tick told);
+    short = waits.holding.short;
+    unticked =
+        ticked-tick asked.kind told
+        ∙ ap (λ (b : Bool). b || is_header_whole asked.kind (output_of told)) waits.holding.unticked
+        ∙ ap (is_header_whole asked.kind) (sym waits.holding.held_is)
+        ∙ waits.open_yet;
+  };
+  open_yet = waits.open_yet;
+}
+
+pub waiting_tick : (asked : Asked) (told : List Told) (close : Bool) (stamp : Option ℕ) (stood : Stood) (state : State) (search : Search) → state.stage ≡ Waiting search
+    → IsAt asked told stood state → Writes asked (told ++ tick ∷ []) close stamp stood [] state
+waiting_tick asked told close stamp (begun close_then stamp_then bytes) state search stage is_at =
+    absurd (at_of asked told state (Waiting search) (begun close_then stamp_then bytes) stage is_at)
+waiting_tick asked told close stamp nothing state search stage is_at =
+    stands_still asked (told ++ tick ∷ []) close stamp state
+    (stage_at asked (told ++ tick ∷ []) state (Waiting search) nothing is_at.asked_is stage
+    (waits_on asked told state.held (at_of asked told state (Waiting search) nothing stage is_at)))
 
 -- ---- where no reply begins before the end
 
@@ -264,11 +420,11 @@ last_unwritten asked told close stamp stood state last asked_is none same is =
     subst (λ (s : Stood). IsLast asked told close stamp s last) (sym none)
     (subst (λ (d : Derived). IsLastOf (whole_way asked close stamp) d last) (sym same) mine)
 
-pub last_waiting : (asked : Asked) (told : List Told) (close : Bool) (stamp : Option ℕ) (stood : Stood) (state : State) (last : Last) → state.stage ≡ Waiting
+pub last_holding : (asked : Asked) (told : List Told) (close : Bool) (stamp : Option ℕ) (stood : Stood) (state : State) (last : Last) → is_holding state.stage ≡ true
     → IsAt asked told stood state → IsLastOf (whole_way state.asked close stamp) (derived_of state.asked.kind state.held) last
     → IsLast asked told close stamp stood last
-last_waiting asked told close stamp stood state last stage is_at is =
-    let was = was_waiting asked told stood state stage is_at in
+last_holding asked told close stamp stood state last stage is_at is =
+    let was = holds_at asked told state.held state.stage stood stage is_at.stage_is in
     last_unwritten asked told close stamp stood state last is_at.asked_is was.0 (ap (derived_of asked.kind) (sym was.1.held_is)) is
 
 pub last_settled : (asked : Asked) (told : List Told) (close : Bool) (stamp : Option ℕ) (stood : Stood) (state : State) (last : Last) → state.stage ≡ Settled
@@ -291,10 +447,12 @@ last_going asked told close stamp (begun close_then stamp_then before) state flo
 -- ---- what stands
 
 standing : (asked : Asked) (told : List Told) (held : List ℕ) (stage : Stage) (stood : Stood) → IsAtStage asked told held stage stood → IsSoFar asked told stood
-standing asked told held Waiting nothing at = waiting_is_not_due asked told held at
+standing asked told held (Waiting search) nothing at = holding_is_not_due asked told held at.holding
+standing asked told held Ready nothing at = holding_is_not_due asked told held at.holding
 standing asked told held Settled nothing at = settled_is_not_due asked told held at
 standing asked told held (Going flow) nothing at = absurd at
-standing asked told held Waiting (begun close stamp bytes) at = absurd at
+standing asked told held (Waiting search) (begun close stamp bytes) at = absurd at
+standing asked told held Ready (begun close stamp bytes) at = absurd at
 standing asked told held Settled (begun close stamp bytes) at = absurd at
 standing asked told held (Going flow) (begun close stamp bytes) at = (at.due, at.part)
 
@@ -345,35 +503,77 @@ waiting_result : {E : Type 0} (result : Result (List ℕ) E) (asked : Asked) (ne
 waiting_result (Ok text) asked next close stamp stood new none writes = subst (λ (s : Stood). Writes asked next close stamp s text new) (sym none) writes
 waiting_result (Err e) asked next close stamp stood new none writes = tt
 
-pub heard_waiting : {E : Type 0} (result : Result (List ℕ) E) (asked : Asked) (told : List Told) (bytes : List ℕ) (close : Bool) (stamp : Option ℕ) (stood : Stood)
-    (old new : State) → old.stage ≡ Waiting → IsAt asked told stood old
+pub heard_holding : {E : Type 0} (result : Result (List ℕ) E) (asked : Asked) (told : List Told) (bytes : List ℕ) (close : Bool) (stamp : Option ℕ) (stood : Stood)
+    (old new : State) → is_holding old.stage ≡ true → IsAt asked told stood old
     → (IsAt asked told nothing old → IfOk result (λ text. Writes asked (told ++ piece bytes ∷ []) close stamp nothing text new))
     → IfOk result (λ text. Writes asked (told ++ piece bytes ∷ []) close stamp stood text new)
-heard_waiting result asked told bytes close stamp stood old new stage is_at heard =
-    let none = (was_waiting asked told stood old stage is_at).0 in
+heard_holding result asked told bytes close stamp stood old new stage is_at heard =
+    let none = (holds_at asked told old.held old.stage stood stage is_at.stage_is).0 in
     waiting_result result asked (told ++ piece bytes ∷ []) close stamp stood new none (heard (subst (λ (s : Stood). IsAt asked told s old) none is_at))
 
-pub ticked_waiting : {E : Type 0} (result : Result (List ℕ) E) (asked : Asked) (told : List Told) (close : Bool) (stamp : Option ℕ) (stood : Stood)
-    (old new : State) → old.stage ≡ Waiting → IsAt asked told stood old
+pub ticked_ready : {E : Type 0} (result : Result (List ℕ) E) (asked : Asked) (told : List Told) (close : Bool) (stamp : Option ℕ) (stood : Stood)
+    (old new : State) → old.stage ≡ Ready → IsAt asked told stood old
     → ((next : List Told) → Looks asked next old → IfOk result (λ text. Writes asked next close stamp nothing text new))
     → IfOk result (λ text. Writes asked (told ++ tick ∷ []) close stamp stood text new)
-ticked_waiting result asked told close stamp stood old new stage is_at looks =
-    let none = (was_waiting asked told stood old stage is_at).0 in
-    waiting_result result asked (told ++ tick ∷ []) close stamp stood new none
-    (looks (told ++ tick ∷ []) (looks_ticked asked told old (subst (λ (s : Stood). IsAt asked told s old) none is_at) stage))
+ticked_ready result asked told close stamp stood old new stage is_at looks =
+    let ready = looks_ticked asked told stood old stage is_at in
+    waiting_result result asked (told ++ tick ∷ []) close stamp stood new ready.0 (looks (told ++ tick ∷ []) ready.1.0)
+
+-- .. where memory was wanting
+needs_nothing : (asked : Asked) (told : List Told) (stood : Stood) → stood ≡ nothing → must_begin asked.kind (told ++ tick ∷ []) ≡ true → NeedsAtTick asked told stood
+needs_nothing asked told nothing none due = due
+needs_nothing asked told (begun close stamp bytes) none due = absurd (cc)
+
+pub ticked_needs : {A E : Type 0} (result : Result A E) (asked : Asked) (told : List Told) (stood : Stood) (old : State) → old.stage ≡ Ready → IsAt asked told stood old
+    → OnErr result (NeedsAtTick asked told stood)
+ticked_needs (Ok text) asked told stood old stage is_at = tt
+ticked_needs (Err e) asked told stood old stage is_at =
+    let ready = looks_ticked asked told stood old stage is_at in
+    needs_nothing asked told stood ready.0 ready.1.1
+
+unbegun_needs : (asked : Asked) (told : List Told) (stood : Stood) → stood ≡ nothing → NeedsAtEnd asked told stood
+unbegun_needs asked told nothing none = tt
+unbegun_needs asked told (begun close stamp bytes) none = absurd (cc)
+
+pub end_needs_unbegun : (asked : Asked) (told : List Told) (stood : Stood) (state : State) → (is_holding state.stage ≡ true) ⊎ (state.stage ≡ Settled)
+    → IsAt asked told stood state → NeedsAtEnd asked told stood
+end_needs_unbegun asked told stood state stage is_at = elim stage [
+  | inl holding ↦ unbegun_needs asked told stood (holds_at asked told state.held state.stage stood holding is_at.stage_is).0
+  | inr settled ↦ unbegun_needs asked told stood (was_settled asked told stood state settled is_at).0
+]
+
+chunked_shape : (shape : Shape) (resets : Bool) → has_mark (flow_of shape resets) ≡ true → shape ≡ Chunked
+chunked_shape Bare resets is = absurd (cc)
+chunked_shape (Length n) resets is = absurd (cc)
+chunked_shape Chunked resets is = refl
+chunked_shape ToClose true is = absurd (cc)
+chunked_shape ToClose false is = absurd (cc)
+
+chunked_flow : (way : Way) (d : Derived) → has_mark (flow_by way d) ≡ true → IsChunked way d
+chunked_flow way (Output.Reply reply) is = chunked_shape (shape_of way reply) (reply.status == 205) is
+chunked_flow way (Output.Raw output) is = absurd (cc)
+chunked_flow way (Output.Hop location) is = absurd (cc)
+chunked_flow way (Output.Bad cause) is = absurd (cc)
+
+pub end_needs_mark : (asked : Asked) (told : List Told) (stood : Stood) (state : State) (flow : Flow) → state.stage ≡ Going flow → IsAt asked told stood state
+    → has_mark flow ≡ true → NeedsAtEnd asked told stood
+end_needs_mark asked told nothing state flow stage is_at mark = tt
+end_needs_mark asked told (begun close stamp bytes) state flow stage is_at mark =
+    let going : IsGoing asked told close stamp bytes flow = at_of asked told state (Going flow) (begun close stamp bytes) stage is_at in
+    chunked_flow (begun_way asked close stamp) (derived_of asked.kind (output_of told)) (ap has_mark (sym going.flow_is) ∙ mark)
 
 last_result : {E : Type 0} (result : Result Last E) (asked : Asked) (told : List Told) (close : Bool) (stamp : Option ℕ) (stood : Stood) (state : State)
-    → (state.stage ≡ Waiting) ⊎ (state.stage ≡ Settled) → IsAt asked told stood state
+    → (is_holding state.stage ≡ true) ⊎ (state.stage ≡ Settled) → IsAt asked told stood state
     → IfOk result (IsLastOf (whole_way state.asked close stamp) (derived_of state.asked.kind state.held)) → IfOk result (IsLast asked told close stamp stood)
 last_result (Ok last) asked told close stamp stood state stage is_at is = elim stage [
-  | inl waiting ↦ last_waiting asked told close stamp stood state last waiting is_at is
+  | inl holding ↦ last_holding asked told close stamp stood state last holding is_at is
   | inr settled ↦ last_settled asked told close stamp stood state last settled is_at is
 ]
 last_result (Err e) asked told close stamp stood state stage is_at is = tt
 
 -- .. of what was derived of what is held
 pub last_derived : {E : Type 0} (result : Result Last E) (asked : Asked) (told : List Told) (close : Bool) (stamp : Option ℕ) (stood : Stood) (state : State)
-    (derived : Derived) → (state.stage ≡ Waiting) ⊎ (state.stage ≡ Settled) → IsAt asked told stood state → derived ≡ derived_of state.asked.kind state.held
+    (derived : Derived) → (is_holding state.stage ≡ true) ⊎ (state.stage ≡ Settled) → IsAt asked told stood state → derived ≡ derived_of state.asked.kind state.held
     → IfOk result (IsLastOf (whole_way state.asked close stamp) derived) → IfOk result (IsLast asked told close stamp stood)
 last_derived result asked told close stamp stood state derived stage is_at same is =
     last_result result asked told close stamp stood state stage is_at

@@ -3,4 +3,5 @@ pub mod HearingRules
 pub mod Writing
 pub mod Stages
 pub mod Openings
+pub mod Memory
 pub mod StageRules

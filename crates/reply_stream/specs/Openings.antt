@@ -11,6 +11,11 @@ use Rattle.reply_stream.specs.declared.asked.Asked.{Asked}
 use Rattle.reply_stream.specs.declared.stage.Flow.{Flow}
 use Rattle.reply_stream.specs.declared.stage.Opening.{Opening}
 use Rattle.reply_stream.specs.declared.stage.Opening.TheVariants.{Wait, Settle, Begin}
+use Rattle.head_lines.specs.declared.search.Search.{Search}
+use Rattle.reply_stream.specs.declared.stage.Stage.{Stage}
+use Rattle.reply_stream.specs.declared.stage.Stage.TheVariants as At
+use Rattle.reply_stream.specs.declared.stage.Header.{Header}
+use Rattle.reply_stream.specs.declared.stage.Header.TheVariants as Seen
 use Rattle.reply_stream.specs.Hearing.{most_kept}
 use Rattle.reply_stream.specs.Stages.{IsSettled, flow_by, opening_of}
 use Rattle.reply_stream.specs.Writing.{IsPartOf, begun_way}
@@ -42,3 +47,24 @@ OpensByKind asked close stamp head body (Err cause) opening = opening ≡ Settle
 
 abbrev pub OpensAfter : Asked → Bool → Option ℕ → CgiHead → List ℕ → Opening → Type 0
 OpensAfter asked close stamp head body opening = OpensByKind asked close stamp head body (kind_of head) opening
+
+-- ---- before it may begin
+
+-- by the kind that a whole header asks for
+abbrev pub header_by : Result ReplyKind Cause → Header
+header_by (Ok Document) = Seen.Ready
+header_by (Ok RedirectDocument) = Seen.Ready
+header_by (Ok LocalRedirect) = Seen.Settled
+header_by (Ok Redirect) = Seen.Settled
+header_by (Err cause) = Seen.Settled
+
+abbrev pub Tells : ScriptKind → List ℕ → Header → Type 0
+Tells kind output Seen.Open = is_header_whole kind output ≡ false
+Tells kind output Seen.Settled = IsSettled kind output
+Tells kind output Seen.Ready = is_streamable kind output ≡ true
+
+-- how the stream goes on
+abbrev pub stage_by : Search → Header → Stage
+stage_by search Seen.Open = At.Waiting search
+stage_by search Seen.Settled = At.Settled
+stage_by search Seen.Ready = At.Ready

@@ -1,7 +1,8 @@
 -- What a stream keeps, and how that stands for what it was told and what it has written.
-use Rattle.std.specs.Prelude.{ℕ, ◌≡◌, ◌≤◌, Bool, true, false, ◌==◌, if◌then◌else◌, List, [], ◌∷◌, ◌++◌, length, Option}
+use Rattle.std.specs.Prelude.{ℕ, ◌≡◌, ◌≤◌, ◌<◌, Bool, true, false, ◌==◌, if◌then◌else◌, List, [], ◌∷◌, ◌++◌, length, Option}
 use Rattle.host_base.specs.declared.reply.Reply.{Reply}
 use Rattle.host_base.specs.declared.site.ScriptKind.{ScriptKind}
+use Rattle.head_lines.specs.Lines.{IsSearched}
 use Rattle.reply_kinds.specs.declared.derived.Derived.{Derived}
 use Rattle.reply_kinds.specs.declared.derived.Derived.TheVariants as Output
 use Rattle.reply_kinds.specs.Derived.{derived_of, is_header_whole, is_streamable}
@@ -16,7 +17,7 @@ use Rattle.reply_stream.specs.declared.stage.Flow.TheVariants.{Nothing, Mark, Ch
 use Rattle.reply_stream.specs.declared.stage.Opening.{Opening}
 use Rattle.reply_stream.specs.declared.stage.Opening.TheVariants.{Begin}
 use Rattle.reply_stream.specs.declared.stage.Stage.{Stage}
-use Rattle.reply_stream.specs.declared.stage.Stage.TheVariants.{Waiting, Settled, Going}
+use Rattle.reply_stream.specs.declared.stage.Stage.TheVariants.{Waiting, Ready, Settled, Going}
 use Rattle.reply_stream.specs.Hearing.{Told, output_of, is_ticked, is_long_enough, most_kept, must_begin}
 use Rattle.reply_stream.specs.Writing.{Stood, nothing, begun, begun_way, stood_next, IsPartOf, IsQuiet}
 
@@ -62,6 +63,13 @@ end_text_of Mark = end_mark
 end_text_of Chunks = end_mark
 end_text_of Plain = []
 
+-- the end of its chunks is written
+abbrev pub has_mark : Flow → Bool
+has_mark Nothing = false
+has_mark Mark = true
+has_mark Chunks = true
+has_mark Plain = false
+
 -- a reply begins with its head, and what is written of the body so far
 abbrev pub opening_of : Asked → Bool → Option ℕ → Reply → List ℕ → Opening
 opening_of asked close stamp reply body =
@@ -75,16 +83,40 @@ pub record State : Type 0 where
   pub held : List ℕ
   pub stage : Stage
 
+-- the search for the end of the header stands in what is held
+abbrev pub IsSoughtIn : List ℕ → Stage → Type 0
+IsSoughtIn held (Waiting search) = IsSearched held search.start search.seen
+IsSoughtIn held Ready = Unit {0}
+IsSoughtIn held Settled = Unit {0}
+IsSoughtIn held (Going flow) = Unit {0}
+
+-- all of the output is held
+abbrev pub is_holding : Stage → Bool
+is_holding (Waiting search) = true
+is_holding Ready = true
+is_holding Settled = false
+is_holding (Going flow) = false
+
 -- no reply begins before the end, whatever follows, and what is derived is known
 pub record IsSettled (kind : ScriptKind) (output : List ℕ) : Type 0 where
   pub never : (more : List ℕ) → is_streamable kind (output ++ more) ≡ false
   pub same : (more : List ℕ) → derived_of kind (output ++ more) ≡ derived_of kind output
 
 -- all of the output is held, and has not waited long
-pub record IsWaiting (asked : Asked) (told : List Told) (held : List ℕ) : Type 0 where
+pub record IsHolding (asked : Asked) (told : List Told) (held : List ℕ) : Type 0 where
   pub held_is : held ≡ output_of told
   pub short : length held ≤ most_kept
   pub unticked : is_ticked asked.kind told ≡ false
+
+-- .. and its header is not whole
+pub record IsWaiting (asked : Asked) (told : List Told) (held : List ℕ) : Type 0 where
+  pub holding : IsHolding asked told held
+  pub open_yet : is_header_whole asked.kind held ≡ false
+
+-- .. and its reply can begin
+pub record IsReady (asked : Asked) (told : List Told) (held : List ℕ) : Type 0 where
+  pub holding : IsHolding asked told held
+  pub can : is_streamable asked.kind held ≡ true
 
 -- a front of the output is held that is settled
 pub record IsSettledAt (asked : Asked) (told : List Told) (held : List ℕ) : Type 0 where
@@ -99,10 +131,12 @@ pub record IsGoing (asked : Asked) (told : List Told) (close : Bool) (stamp : Op
   pub flow_is : flow ≡ flow_by (begun_way asked close stamp) (derived_of asked.kind (output_of told))
 
 abbrev pub IsAtStage : Asked → List Told → List ℕ → Stage → Stood → Type 0
-IsAtStage asked told held Waiting nothing = IsWaiting asked told held
+IsAtStage asked told held (Waiting search) nothing = IsWaiting asked told held
+IsAtStage asked told held Ready nothing = IsReady asked told held
 IsAtStage asked told held Settled nothing = IsSettledAt asked told held
 IsAtStage asked told held (Going flow) nothing = ⊥
-IsAtStage asked told held Waiting (begun close stamp bytes) = ⊥
+IsAtStage asked told held (Waiting search) (begun close stamp bytes) = ⊥
+IsAtStage asked told held Ready (begun close stamp bytes) = ⊥
 IsAtStage asked told held Settled (begun close stamp bytes) = ⊥
 IsAtStage asked told held (Going flow) (begun close stamp bytes) = IsGoing asked told close stamp bytes flow
 
@@ -116,9 +150,28 @@ pub record Writes (asked : Asked) (told : List Told) (close : Bool) (stamp : Opt
   pub is_at : IsAt asked told (stood_next asked told close stamp stood bytes) state
   pub quiet : IsQuiet (stood_next asked told close stamp stood bytes) bytes
 
--- all of the output is held, and it has waited long enough, if its header is whole
+-- All of the output is held. It has waited long enough, if its header is whole, and is long, if not.
 pub record Looks (asked : Asked) (told : List Told) (state : State) : Type 0 where
   pub asked_is : state.asked ≡ asked
   pub held_is : state.held ≡ output_of told
   pub due : is_header_whole asked.kind (output_of told) ≡ true → is_long_enough asked.kind told ≡ true
-  pub unticked : is_header_whole asked.kind (output_of told) ≡ false → is_ticked asked.kind told ≡ false
+  pub long : is_header_whole asked.kind (output_of told) ≡ false → most_kept < length (output_of told)
+
+-- all of the output is held, and has not waited long; its header was not whole before
+pub record Reads (asked : Asked) (told : List Told) (state : State) : Type 0 where
+  pub asked_is : state.asked ≡ asked
+  pub holding : IsHolding asked told state.held
+
+-- a reply that could begin still can
+abbrev pub StaysAt : ScriptKind → List ℕ → Stage → Type 0
+StaysAt kind held (Waiting search) = Unit {0}
+StaysAt kind held Ready = is_streamable kind held ≡ true
+StaysAt kind held Settled = ⊥
+StaysAt kind held (Going flow) = ⊥
+
+-- all of the output is held after a piece, and no tick came after its header
+pub record Joins (asked : Asked) (told : List Told) (state : State) : Type 0 where
+  pub asked_is : state.asked ≡ asked
+  pub held_is : state.held ≡ output_of told
+  pub unticked : is_ticked asked.kind told ≡ false
+  pub stays : StaysAt asked.kind state.held state.stage

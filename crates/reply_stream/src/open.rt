@@ -1,15 +1,15 @@
 // How a reply begins.
 ghost use Rattle.std.specs.Prelude.{◌≡◌, true, [], IfOk, Option, option_map};
-ghost use Rattle.reply_kinds.specs.Kind.{has_body, reply_of};
+ghost use Rattle.reply_kinds.specs.Kind.{has_body, kind_of, reply_of};
 ghost use Rattle.reply_writer.specs.Dates.{date_text_of};
 ghost use Rattle.reply_writer.specs.Spelling.{date_value, dated, head_text_of};
 ghost use Rattle.reply_writer.specs.WholeRules.{IsStamp};
 ghost use Rattle.reply_stream.specs.Stages.{begun_shape, flow_of, opening_of};
-ghost use Rattle.reply_stream.specs.Openings.{Opens, OpensAfter};
+ghost use Rattle.reply_stream.specs.Openings.{Opens, OpensAfter, Tells, header_by};
 
 use crate::Asked;
 use crate::pieces::push_piece;
-use crate::stage::{Flow, Opening};
+use crate::stage::{Flow, Header, Opening};
 use cgi_header::{CgiHead, HdrStep, read_header};
 use host_base::{Bytes, NoMemory, Reply, ScriptKind, Version};
 use reply_kinds::{ReplyKind, kind_of, reply_of};
@@ -175,5 +175,37 @@ pub fn open(
         ScriptKind::Nph if output.is_empty() => Ok(Opening::Wait),
         ScriptKind::Nph => Ok(Opening::Begin(Flow::Plain, Bytes::from_slice(alloc, output)?)),
         ScriptKind::WebSocket => Ok(Opening::Settle),
+    }
+}
+
+fn cgi_header_of(alloc: Global, output: &[u8]) -> Result<Header, NoMemory>
+    ensures { IfOk result (Tells ScriptKind.Cgi output.now) }
+{
+    match read_header(alloc, output)? {
+        HdrStep::More => Ok(Header::Open),
+        HdrStep::Bad(_) => Ok(Header::Settled),
+        HdrStep::Whole { head, .. } => Ok(document_of(&head)),
+    }
+}
+
+// By the kind that a whole header asks for.
+fn document_of(head: &CgiHead) -> Header
+    ensures { result ≡ header_by (kind_of head.now) }
+{
+    match kind_of(head) {
+        Ok(ReplyKind::Document | ReplyKind::RedirectDocument) => Header::Ready,
+        Ok(ReplyKind::LocalRedirect | ReplyKind::Redirect) | Err(_) => Header::Settled,
+    }
+}
+
+// What the header of an output so far tells.
+pub fn header_of(alloc: Global, output: &[u8], kind: ScriptKind) -> Result<Header, NoMemory>
+    ensures { IfOk result (Tells kind output.now) }
+{
+    match kind {
+        ScriptKind::Cgi => cgi_header_of(alloc, output),
+        ScriptKind::Nph if output.is_empty() => Ok(Header::Open),
+        ScriptKind::Nph => Ok(Header::Ready),
+        ScriptKind::WebSocket => Ok(Header::Settled),
     }
 }

@@ -1,6 +1,6 @@
 // What is written of a body, piece by piece, and at its end.
-ghost use Rattle.std.specs.Prelude.{◌≡◌, ◌++◌, IfOk, OnOk};
-ghost use Rattle.reply_stream.specs.Stages.{chunked_text, piece_text_of, end_text_of};
+ghost use Rattle.std.specs.Prelude.{◌≡◌, ◌++◌, true, IfOk, OnErr, OnOk};
+ghost use Rattle.reply_stream.specs.Stages.{chunked_text, piece_text_of, end_text_of, has_mark};
 
 use crate::stage::Flow;
 use host_base::{Bytes, NoMemory};
@@ -52,7 +52,8 @@ fn chunk_of(alloc: Global, piece: Bytes) -> Result<Bytes, NoMemory>
 
 // What is written where the body has ended.
 pub fn end_text(alloc: Global, flow: Flow) -> Result<Bytes, NoMemory>
-    ensures { IfOk result (λ text. text ≡ end_text_of flow) }
+    ensures text { IfOk result (λ text. text ≡ end_text_of flow) }
+    ensures memory { OnErr result (has_mark flow ≡ true) }
 {
     match flow {
         Flow::Mark | Flow::Chunks => Bytes::from_slice(alloc, END_MARK),

@@ -1,4 +1,5 @@
 // Where a stream stands, and how its reply goes on.
+use head_lines::Search;
 use host_base::Bytes;
 
 // How what follows a head goes on.
@@ -14,10 +15,12 @@ pub enum Flow {
     Plain,
 }
 
-#[derive(Clone, Copy, Debug, PartialEq, Eq)]
+#[derive(Clone, Copy, Debug)]
 pub enum Stage {
-    // Nothing is written, and all of the output is held.
-    Waiting,
+    // Nothing is written, all of the output is held, and its header is not whole. So far its end was searched for.
+    Waiting(Search),
+    // Nothing is written, all of the output is held, and the reply can begin.
+    Ready,
     // Nothing is written before the end, and what is held tells what is derived.
     Settled,
     // The reply has begun, and nothing is held.
@@ -33,4 +36,15 @@ pub enum Opening {
     Settle,
     // The reply begins with these bytes.
     Begin(Flow, Bytes),
+}
+
+// What the header of the output so far tells.
+#[derive(Clone, Copy, Debug)]
+pub enum Header {
+    // It is not whole.
+    Open,
+    // No reply begins before the end.
+    Settled,
+    // It is whole, and the reply can begin.
+    Ready,
 }

@@ -1,13 +1,8 @@
 use Rattle.std.proofs.Common.{◌≡◌, sym, ◌∙◌, ap}
-use Rattle.reply_stream.specs.declared.stage.Stage.TheVariants.{Waiting, Settled, Going}
+use Rattle.reply_stream.specs.declared.stage.Stage.TheVariants.{Settled, Going}
 use Rattle.reply_stream.specs.Stages.{State}
-use Rattle.reply_stream.proofs.StageLaws.{going_heard, heard_waiting, settled_piece}
+use Rattle.reply_stream.proofs.StageLaws.{going_heard, settled_piece}
 use Rattle.reply_stream.proofs.stream.Stream.hear.Goals as goal
-
-pub returns-in-Waiting-clause-heard : goal.returns-in-Waiting-clause-heard
-returns-in-Waiting-clause-heard c = λ asked told stood is_at.
-    let stage : c.args.self.now.stage ≡ Waiting = ap (λ (s : State). s.stage) (sym c.self.view_is) ∙ c.in-Waiting.is in
-    heard_waiting c.hold.result asked told c.args.bytes c.args.close c.args.stamp stood c.args.self.now c.hold.new.self stage is_at (c.hold.ensures.heard asked told)
 
 pub returns-in-Settled-clause-heard : goal.returns-in-Settled-clause-heard
 returns-in-Settled-clause-heard c = λ asked told stood is_at.

@@ -1,0 +1,4 @@
+pub mod View
+pub mod Knows
+pub mod Form
+pub mod Laws

@@ -1,0 +1,32 @@
+// Laws of the marks of a connection. Each function is one law, and does nothing.
+ghost use Rattle.conn_marks.specs.Laws.{StartsAreKnown, EventsMayCome, ItemsAreKnown, ActsAreKnown, MarksAreExact, IdleItemsChangeNothing};
+
+/// The marks of a new connection know the empty list.
+pub fn starts_are_known()
+    ensures { StartsAreKnown }
+{}
+
+/// An event that fits the list of its connection may come next.
+pub fn events_may_come()
+    ensures { EventsMayCome }
+{}
+
+/// Marks that note an item that may come next know the list with that item.
+pub fn items_are_known()
+    ensures { ItemsAreKnown }
+{}
+
+/// So it is with acts each of which may be given when it is given.
+pub fn acts_are_known()
+    ensures { ActsAreKnown }
+{}
+
+/// What the marks tell is what the list says.
+pub fn marks_are_exact()
+    ensures { MarksAreExact }
+{}
+
+/// An item that neither names the connection nor is Accepted or Stop leaves its marks as they are.
+pub fn idle_items_change_nothing()
+    ensures { IdleItemsChangeNothing }
+{}
