@@ -18,7 +18,7 @@ use Rattle.host_trace.proofs.FirstLaws.{list_any-push, count_by-push, since-push
 use Rattle.host_trace.proofs.ProjectionLaws.{client_out-push, said-push, wrote_sum-push, shut-push, upgraded-push}
 use Rattle.conn_marks.specs.View.{View, fresh, noted, count_sent, pending_after, more_by, less_by, is_live, may_write, has_room}
 use Rattle.conn_marks.specs.Knows.{Knows, Admits, one_if, is_gone_by}
-use Rattle.conn_marks.specs.Form.{may_give, given_all, are_given}
+use Rattle.conn_marks.specs.Form.{may_give, is_timely, is_allowed, may_start, given_all, are_given}
 use Rattle.conn_marks.specs.Laws.{AreExact, concerns}
 
 -- ---- words
@@ -283,7 +283,7 @@ marks_told m L k = record {
 
 -- ---- acts
 
-act_admitted : (m : View) (act : Act) → may_give m act ≡ true → Admits m (Out act)
+pub act_admitted : (m : View) (act : Act) → may_give m act ≡ true → Admits m (Out act)
 act_admitted m (WantClient d) f = record {
   asks = λ e. not-true m.asked (and_parts (is_live m) (not m.asked) f).1;
   answers = λ e. absurd (false≢true e);
@@ -304,8 +304,9 @@ act_admitted m (CloseWs d code) f = record { asks = λ e. absurd (false≢true e
 pub known_all : (m : View) (L : List Item) (acts : List Act) → Knows m L → are_given m acts ≡ true → Knows (given_all m acts) (L ++ map Out acts)
 known_all m L [] k f = rw (append-nil L) k
 known_all m L (act ∷ acts) k f =
-    let parts = and_parts (may_give m act) (are_given (noted m (Out act)) acts) f in
-    let one : Knows (noted m (Out act)) (L ++ Out act ∷ []) = known_next m L (Out act) k (act_admitted m act parts.0) in
+    let parts = and_parts (is_allowed m act) (are_given (noted m (Out act)) acts) f in
+    let may : may_give m act ≡ true = (and_parts (may_give m act) (is_timely m act) parts.0).0 in
+    let one : Knows (noted m (Out act)) (L ++ Out act ∷ []) = known_next m L (Out act) k (act_admitted m act may) in
     subst (λ l. Knows (given_all (noted m (Out act)) acts) l) (append_assoc L (Out act ∷ []) (map Out acts))
     (known_all (noted m (Out act)) (L ++ Out act ∷ []) acts one parts.1)
 
@@ -316,9 +317,19 @@ given_all-append m (x ∷ xs) ys = given_all-append (noted m (Out x)) xs ys
 pub are_given-append : (m : View) (xs ys : List Act) → are_given m xs ≡ true → are_given (given_all m xs) ys ≡ true → are_given m (xs ++ ys) ≡ true
 are_given-append m [] ys f g = g
 are_given-append m (x ∷ xs) ys f g =
-    let parts = and_parts (may_give m x) (are_given (noted m (Out x)) xs) f in
-    and_from (may_give m x) (are_given (noted m (Out x)) (xs ++ ys)) parts.0 (are_given-append (noted m (Out x)) xs ys parts.1 g)
+    let parts = and_parts (is_allowed m x) (are_given (noted m (Out x)) xs) f in
+    and_from (is_allowed m x) (are_given (noted m (Out x)) (xs ++ ys)) parts.0 (are_given-append (noted m (Out x)) xs ys parts.1 g)
 
 pub given_all-number : (m : View) (acts : List Act) → (given_all m acts).c ≡ m.c
 given_all-number m [] = refl
 given_all-number m (act ∷ acts) = given_all-number (noted m (Out act)) acts
+
+allowed : (live plain room stop : Bool) → (live && plain && room && stop) ≡ true → (live && (room && stop)) ≡ true
+allowed true true true true e = refl
+allowed true true true false e = e
+allowed true true false stop e = e
+allowed true false room stop e = absurd (false≢true e)
+allowed false plain room stop e = absurd (false≢true e)
+
+pub start_allowed : (m : View) → may_start m ≡ true → (is_live m && (has_room m && not m.stopped)) ≡ true
+start_allowed m e = allowed (is_live m) (not m.upgraded) (has_room m) (not m.stopped) e

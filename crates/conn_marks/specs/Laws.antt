@@ -21,7 +21,7 @@ EventsMayCome = (limit : ℕ) (m : View) (L : List Item) (ev : Event) → Knows 
 abbrev pub ItemsAreKnown : Type 0
 ItemsAreKnown = (m : View) (L : List Item) (x : Item) → Knows m L → Admits m x → Knows (noted m x) (L ++ x ∷ [])
 
--- Acts each of which may be given when it is given.
+-- Acts each of which is allowed when it is given.
 abbrev pub ActsAreKnown : Type 0
 ActsAreKnown = (m : View) (L : List Item) (acts : List Act) → Knows m L → are_given m acts ≡ true → Knows (given_all m acts) (L ++ map Out acts)
 

@@ -16,7 +16,7 @@ pub fn items_are_known()
     ensures { ItemsAreKnown }
 {}
 
-/// So it is with acts each of which may be given when it is given.
+/// So it is with acts each of which is allowed when it is given.
 pub fn acts_are_known()
     ensures { ActsAreKnown }
 {}

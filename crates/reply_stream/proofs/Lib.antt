@@ -1,4 +1,5 @@
 pub mod HearingLaws
 pub mod PartLaws
 pub mod OpenLaws
+pub mod HoldLaws
 pub mod StageLaws

@@ -1,6 +1,6 @@
 use Rattle.std.proofs.Common.{◌≡◌, ◌++◌, ◌∙◌, ap}
 use Rattle.reply_stream.specs.Stages.{State}
-use Rattle.reply_stream.proofs.StageLaws.{joins}
+use Rattle.reply_stream.proofs.HoldLaws.{joins}
 use Rattle.reply_stream.proofs.stream.Stream.hold.Goals as goal
 
 pub returns-in-Ok-clause-heard : goal.returns-in-Ok-clause-heard

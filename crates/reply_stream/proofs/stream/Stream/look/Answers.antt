@@ -2,7 +2,7 @@ use Rattle.std.proofs.Common.{◌≡◌, List, ℕ, sym, subst}
 use Rattle.reply_stream.specs.declared.stage.Opening.TheVariants.{Wait, Settle, Begin}
 use Rattle.reply_stream.specs.Openings.{Opens}
 use Rattle.reply_stream.specs.Stages.{Looks, State}
-use Rattle.reply_stream.proofs.StageLaws.{looked_open, looked_settled, looked_begun}
+use Rattle.reply_stream.proofs.HoldLaws.{looked_open, looked_settled, looked_begun}
 use Rattle.reply_stream.proofs.stream.Stream.look.Goals as goal
 
 pub returns-in-Wait-clause-looks : goal.returns-in-Wait-clause-looks

@@ -1,4 +1,4 @@
-use Rattle.reply_stream.proofs.StageLaws.{made}
+use Rattle.reply_stream.proofs.HoldLaws.{made}
 use Rattle.reply_stream.proofs.stream.Stream.new.Goals as goal
 
 pub returns : goal.returns

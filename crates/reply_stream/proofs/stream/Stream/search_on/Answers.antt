@@ -2,7 +2,7 @@ use Rattle.std.proofs.Common.{◌≡◌, ℕ, List, [], sym, ◌∙◌, ap, subs
 use Rattle.std.proofs.lemmas.List.{append-nil}
 use Rattle.head_lines.specs.Lines.{IsSearched}
 use Rattle.reply_stream.specs.Stages.{Reads, State}
-use Rattle.reply_stream.proofs.StageLaws.{read_none}
+use Rattle.reply_stream.proofs.HoldLaws.{read_none}
 use Rattle.reply_stream.proofs.stream.Stream.search_on.Goals as goal
 
 pub read-requires : goal.read-requires

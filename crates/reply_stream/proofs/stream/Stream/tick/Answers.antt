@@ -1,7 +1,8 @@
 use Rattle.std.proofs.Common.{◌≡◌, sym, ◌∙◌, ap, inl, inr}
 use Rattle.reply_stream.specs.declared.stage.Stage.TheVariants.{Ready}
 use Rattle.reply_stream.specs.Stages.{State}
-use Rattle.reply_stream.proofs.StageLaws.{going_tick, settled_tick, ticked_needs, ticked_ready, waiting_tick}
+use Rattle.reply_stream.proofs.HoldLaws.{waiting_tick}
+use Rattle.reply_stream.proofs.StageLaws.{going_tick, settled_tick, ticked_needs, ticked_ready}
 use Rattle.reply_stream.proofs.stream.Stream.tick.Goals as goal
 
 pub returns-in-Ready-clause-ticked : goal.returns-in-Ready-clause-ticked

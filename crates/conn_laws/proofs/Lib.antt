@@ -1,0 +1,6 @@
+pub mod QuietLaws
+pub mod HopLaws
+pub mod IdleLaws
+pub mod EndLaws
+pub mod FormLaws
+pub mod StartLaws

@@ -1,0 +1,13 @@
+//! What each item of a connection's list makes of the exchange that goes on, hop by hop: the words in which a state
+//! keeps step with the model. The functions here are laws, and do nothing.
+#![tactic(auto)]
+
+mod laws;
+
+pub use laws::{
+    acts_break_nothing, acts_come_in_form, acts_come_in_time, ends_are_tested, form_is_by_marks,
+    hops_are_walked, hops_stand_as_they_are, idle_end_is_the_last, idle_is_counted_down,
+    last_child_decides, marks_say_demands, outcomes_tell_deciders, plain_acts_are_quiet,
+    quiet_items_change_nothing, redirects_lead_on, settled_stay, starts_begin,
+    unfinished_are_not_whole, walks_are_kept, whole_output_stays, whole_stays,
+};

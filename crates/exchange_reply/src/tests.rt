@@ -1,0 +1,177 @@
+// What the reply of a leg writes, and how it closes. Each row is told as it stands.
+ghost use Rattle.reply_writer.specs.WholeRules.{IsStamp};
+
+use crate::{LegReply, fault_text};
+use host_base::{Bytes, Cause, NoMemory, ScriptKind, Version};
+use reply_stream::{Asked, Last};
+use std::alloc::Global;
+
+// What is told, whether the connection closes after an answer that begins then, and what is then written.
+#[derive(Clone, Copy)]
+enum Told {
+    Piece(&'static str, bool, &'static str),
+    Tick(bool, &'static str),
+}
+
+use Told::{Piece, Tick};
+
+const GET: Asked = Asked {
+    kind: ScriptKind::Cgi,
+    version: Version::V11,
+    head_only: false,
+};
+
+const HEAD: Asked = Asked {
+    kind: ScriptKind::Cgi,
+    version: Version::V11,
+    head_only: true,
+};
+
+const RAW: Asked = Asked {
+    kind: ScriptKind::Nph,
+    version: Version::V11,
+    head_only: false,
+};
+
+// What is asked, what is told, what is written at the end, and whether the connection closes then. At the end an
+// answer that begins closes.
+type Row = (Asked, &'static [Told], &'static str, bool);
+
+const ROWS: [Row; 6] = [
+    // The first byte fixes that it stays open ..
+    (
+        GET,
+        &[
+            Piece("Content-Type: text/plain\n\nhi\n", true, ""),
+            Tick(
+                false,
+                "HTTP/1.1 200 OK\r\nContent-Type: text/plain\r\nTransfer-Encoding: chunked\r\n\r\n3\r\nhi\n\r\n",
+            ),
+            Piece("ho", true, "2\r\nho\r\n"),
+        ],
+        "0\r\n\r\n",
+        false,
+    ),
+    // .. or that it closes.
+    (
+        GET,
+        &[
+            Piece("Content-Type: text/plain\n\n", false, ""),
+            Tick(
+                true,
+                "HTTP/1.1 200 OK\r\nContent-Type: text/plain\r\nTransfer-Encoding: chunked\r\nConnection: close\r\n\r\n",
+            ),
+            Piece("ho", false, "2\r\nho\r\n"),
+        ],
+        "0\r\n\r\n",
+        true,
+    ),
+    // Nothing was written before the end.
+    (
+        GET,
+        &[Piece("Content-Type: text/plain\n\nhi\n", false, "")],
+        "HTTP/1.1 200 OK\r\nContent-Type: text/plain\r\nContent-Length: 3\r\nConnection: close\r\n\r\nhi\n",
+        true,
+    ),
+    // A Tick before the header counts for nothing.
+    (
+        GET,
+        &[
+            Tick(false, ""),
+            Piece("Content-Type: text/plain\n", false, ""),
+            Tick(false, ""),
+            Piece("\nhi\n", false, ""),
+        ],
+        "HTTP/1.1 200 OK\r\nContent-Type: text/plain\r\nContent-Length: 3\r\nConnection: close\r\n\r\nhi\n",
+        true,
+    ),
+    // To HEAD nothing follows the head, so the whole answer stands before the end.
+    (
+        HEAD,
+        &[
+            Piece("Content-Type: text/plain\n\nhi\n", false, ""),
+            Tick(false, "HTTP/1.1 200 OK\r\nContent-Type: text/plain\r\n\r\n"),
+            Piece("ho", false, ""),
+        ],
+        "",
+        false,
+    ),
+    // The output of an nph script is the reply as it is (RFC 3875 5).
+    (
+        RAW,
+        &[
+            Piece("HTTP/1.0 200 OK\n", true, ""),
+            Tick(true, "HTTP/1.0 200 OK\n"),
+            Piece("\nhi\n", false, "\nhi\n"),
+        ],
+        "",
+        true,
+    ),
+];
+
+// Whether the end is as the row says.
+fn ends_as(reply: LegReply, row: &Row) -> Result<bool, NoMemory> {
+    if reply.closes(true) != row.3 {
+        return Ok(false);
+    }
+    match reply.end(true, None)? {
+        Last::Written(text) => Ok(text.as_slice() == row.2.as_bytes()),
+        Last::Hop(_) | Last::Bad(_) => Ok(false),
+    }
+}
+
+// Whether each thing that is told is answered as its row says, and the end too.
+fn is_answered(alloc: Global, row: &Row) -> Result<bool, NoMemory> {
+    let mut reply = LegReply::new(alloc, row.0);
+    for told in row.1.iter() {
+        let (written, expected) = match told {
+            Piece(piece, closes, expected) => {
+                let piece = Bytes::from_slice(alloc, piece.as_bytes())?;
+                (reply.hear(piece, *closes, None)?, expected)
+            }
+            Tick(closes, expected) => (reply.tick(*closes, None)?, expected),
+        };
+        if written.as_slice() != expected.as_bytes() {
+            return Ok(false);
+        }
+    }
+    ends_as(reply, row)
+}
+
+#[test]
+fn rows(rt: HostRuntime) -> Result<(), NoMemory> {
+    let mut number: usize = 0;
+    for row in ROWS.iter() {
+        assert!(&rt; is_answered(rt.alloc(), row)?, "row {number}");
+        number = number.saturating_add(1);
+    }
+    Ok(())
+}
+
+// The host's own reply to a run that took too long, with the Date of RFC 9110 5.6.7.
+const LATE: &[u8] =
+    b"HTTP/1.1 504 Gateway Timeout\r\nContent-Type: text/plain\r\nDate: Sun, 06 Nov 1994 08:49:37 GMT\r\nContent-Length: 21\r\nConnection: close\r\n\r\nscript took too long\n";
+
+// .. and to HEAD, without one.
+const LATE_HEAD: &[u8] = b"HTTP/1.1 504 Gateway Timeout\r\nContent-Type: text/plain\r\n\r\n";
+
+#[test]
+fn a_run_that_fails_is_answered_by_the_host(rt: HostRuntime) -> Result<(), NoMemory> {
+    let reply = LegReply::new(rt.alloc(), GET);
+    assert!(&rt; !reply.has_begun());
+    let text = reply.fail(Cause::RunTime, true, Some(784_111_777))?;
+    assert!(&rt; text.is_some_and(|text| text.as_slice() == LATE));
+    let text = fault_text(rt.alloc(), Cause::RunTime, true, false, None)?;
+    assert!(&rt; text.as_slice() == LATE_HEAD);
+    Ok(())
+}
+
+#[test]
+fn a_reply_that_has_begun_is_not_answered_anew(rt: HostRuntime) -> Result<(), NoMemory> {
+    let mut reply = LegReply::new(rt.alloc(), RAW);
+    let _none = reply.hear(Bytes::from_slice(rt.alloc(), b"hi")?, false, None)?;
+    let _text = reply.tick(false, None)?;
+    assert!(&rt; reply.has_begun());
+    assert!(&rt; reply.fail(Cause::RunTime, true, None)?.is_none());
+    Ok(())
+}
