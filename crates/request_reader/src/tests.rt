@@ -4,7 +4,7 @@ mod tables;
 use crate::{ReqReader, ReqStep, persists, redirected};
 use host_base::{Bytes, Cause, Limits, NoMemory, Request, Target};
 use std::alloc::Global;
-use tables::{BAD_BODIES, FAULTS, LASTING, REQUESTS, SMUGGLED, UNENDED};
+use tables::{BAD_BODIES, FAULTS, LASTING, LONG_LINES, REQUESTS, SMUGGLED, UNENDED};
 
 fn least_limits() -> Limits {
     Limits {
@@ -144,6 +144,38 @@ fn what_has_two_readings_is_refused(rt: HostRuntime) {
     for (text, cause, bare) in BAD_BODIES.iter() {
         let right = is_answered_however_cut(rt.alloc(), text, &[], Some((*cause, *bare)), None);
         assert!(&rt; right == Ok(true), "{}", text.len());
+    }
+}
+
+fn long_text(
+    alloc: Global,
+    before: &[u8],
+    times: usize,
+    after: &[u8],
+) -> Result<Vec<u8>, NoMemory> {
+    let mut text = Vec::from_slice(alloc, before)?;
+    for _ in 0..times {
+        text.push(b'x')?;
+    }
+    text.extend_from_slice(after)?;
+    Ok(text)
+}
+
+#[test]
+fn long_lines_however_they_are_cut(rt: HostRuntime) {
+    for (before, times, after, due, fault) in LONG_LINES.iter() {
+        let left = if fault.is_some() {
+            None
+        } else {
+            Some((false, 0))
+        };
+        match long_text(rt.alloc(), before, *times, after) {
+            Ok(text) => {
+                let right = is_answered_however_cut(rt.alloc(), &text, due, *fault, left);
+                assert!(&rt; right == Ok(true), "{}", times);
+            }
+            Err(_) => panic!(&rt; "no memory"),
+        }
     }
 }
 

@@ -514,6 +514,45 @@ pub const BAD_BODIES: [(&[u8], Cause, bool); 7] = [
     ),
 ];
 
+// Requests whose body has a long line: what stands before it, how many bytes of it follow, what stands
+// behind them, the requests that are given, and the fault.
+pub const LONG_LINES: [(
+    &[u8],
+    usize,
+    &[u8],
+    &[(&[u8], &[u8])],
+    Option<(Cause, bool)>,
+); 4] = [
+    (
+        b"POST / HTTP/1.1\r\nHost: a\r\nTransfer-Encoding: chunked\r\n\r\n1;",
+        255,
+        b"\r\na\r\n0\r\n\r\n",
+        &[(b"/", b"a")],
+        None,
+    ),
+    (
+        b"POST / HTTP/1.1\r\nHost: a\r\nTransfer-Encoding: chunked\r\n\r\n1;",
+        256,
+        b"\r\na\r\n0\r\n\r\n",
+        &[],
+        Some((Cause::BadChunk, false)),
+    ),
+    (
+        b"POST / HTTP/1.1\r\nHost: a\r\nTransfer-Encoding: chunked\r\n\r\n1\r\na\r\n0\r\nA",
+        8191,
+        b"\r\n\r\n",
+        &[(b"/", b"a")],
+        None,
+    ),
+    (
+        b"HEAD / HTTP/1.1\r\nHost: a\r\nTransfer-Encoding: chunked\r\n\r\n0\r\nA",
+        8192,
+        b"\r\n\r\n",
+        &[],
+        Some((Cause::BadChunk, true)),
+    ),
+];
+
 // Requests that have not ended, whether 100 Continue is due, and their body so far where they can be
 // served early.
 pub const UNENDED: [(&[u8], bool, Option<&[u8]>); 14] = [
