@@ -1,5 +1,6 @@
 -- One step of a row after another.
 use Rattle.std.proofs.Common.{◌≡◌, ℕ, ◌≤◌, List, [], ◌++◌, refl, sym, ◌∙◌, arith, subst, ap, ◌+◌, take, drop, length, length-drop, ◌-◌, append_assoc}
+use Rattle.std.proofs.lemmas.Grind.{common_steps}
 use Rattle.std.proofs.Math.Seq.{take-length}
 use Rattle.std.proofs.lemmas.List.{append-nil, take-append-drop, drop-drop, drop-append-le}
 use Rattle.host_trace.specs.declared.items.Event.{Event}
@@ -134,6 +135,10 @@ rest_whole b m = rw (← length-drop m b) (take-length (drop m b))
 
 pub moved_range : (f g b : List ℕ) (m n : ℕ) → g ≡ f ++ take n (take (length b - m) (drop m b)) → g ++ drop (m + n) b ≡ f ++ drop m b
 moved_range f g b m n e = moved_more f g b m n (e ∙ ap (λ w. f ++ take n w) (rest_whole b m))
+
+-- so many bytes more were fed
+pub fed_longer : (f g b : List ℕ) (n : ℕ) → n ≤ length b → g ≡ f ++ take n b → length g ≡ length f + n
+fed_longer f g b n h e = grind (arith, common_steps)
 
 -- what is left grows by what is added
 pub fed_more : (f b bytes h : List ℕ) (m : ℕ) → m ≤ length b → h ≡ b ++ bytes → f ++ drop m h ≡ (f ++ drop m b) ++ bytes

@@ -1,5 +1,5 @@
 -- What the set holds of each child, and what an event says of it.
-use Rattle.std.specs.Prelude.{◌≡◌, ℕ, zero, suc, ◌≤◌, ◌<◌, ◌==◌, ◌⊎◌, filter, ◌&&◌, Bool, true, false, not, List, [], ◌∷◌, ◌++◌, length, drop, Option, Some, None, is_some, ⊤}
+use Rattle.std.specs.Prelude.{◌≡◌, ℕ, zero, suc, ◌≤◌, ◌<◌, ◌+◌, ◌==◌, ◌⊎◌, filter, ◌&&◌, Bool, true, false, not, List, [], ◌∷◌, ◌++◌, length, drop, Option, Some, None, is_some, ⊤}
 use Rattle.std.specs.List.{position_or_len}
 use Rattle.host_base.specs.Outsides.{Rose}
 use Rattle.host_trace.specs.declared.items.Event.{Event}
@@ -22,20 +22,23 @@ pub record IsAsked (a b : KidTells) : Type 0 where
   pub input : b.in_end ≡ None → Rose a.in_looks b.in_looks
   pub exit : b.reaped ≡ false → Rose a.reap_looks b.reap_looks
 
--- what was asked for and what was told of a child
+-- what was asked for and what was told of a child; `taken` is how many bytes its input was told to have taken
 pub record Marks : Type 0 where
   pub wanted : Bool
   pub input_ended : Bool
   pub output_ended : Bool
   pub exited : Bool
+  pub taken : ℕ
 
 -- the same after an event of the child
 abbrev pub marks_after : Event → Marks → Marks
 marks_after (ChildBytes k bytes) m = record m { wanted = false }
 marks_after (ChildEof k) m = record m { wanted = false; output_ended = true }
 marks_after (ChildBroken k) m = record m { wanted = false; output_ended = true }
+marks_after (Took k n) m = record m { taken = m.taken + n }
 marks_after (InputGone k) m = record m { input_ended = true }
 marks_after (Exited k) m = record m { exited = true }
+marks_after (NoRoom c) m = record m { wanted = false }
 marks_after _ m = m
 
 -- the same after one event of its output was asked for, after its input was closed, and after its output was
@@ -65,7 +68,7 @@ IsEmptied (Some tap) = (is_finished tap ≡ true) × (standing tap ≡ [])
 
 module _ {K : Type 0} where
   abbrev pub marks : Row K → Marks
-  marks r = record { wanted = r.wanted; input_ended = r.input_ended; output_ended = r.output_ended; exited = r.exited }
+  marks r = record { wanted = r.wanted; input_ended = r.input_ended; output_ended = r.output_ended; exited = r.exited; taken = r.told }
 
   -- the bytes that the child's feeder was given, and those still held for it
   abbrev pub fed_all : Row K → List ℕ
@@ -92,6 +95,8 @@ module _ {K : Type 0} where
     pub finished : (tap : Tap) → r.tap ≡ Some tap → is_finished tap ≡ is_some r.out_end
     pub gone : r.tap ≡ None → (r.wanted ≡ false) × (r.output_ended ≡ true)
     pub held : r.moved ≤ length r.backlog.items
+    pub told_taken : r.told ≤ r.put
+    pub put_fed : r.put ≤ length (fed r.feeder)
 
   -- the same child; its feed grew by nothing; its tap handed up these bytes
   pub record Stays (tells : K → KidTells) (output : List ℕ) (r s : Row K) : Type 0 where
@@ -230,7 +235,7 @@ module _ {K : Type 0} where
     pub connection : r.c ≡ c
     pub feed : fed_all r ≡ []
     pub taken : handed_by r.tap ≡ []
-    pub marks : marks r ≡ record { wanted = false; input_ended = false; output_ended = false; exited = false }
+    pub marks : marks r ≡ record { wanted = false; input_ended = false; output_ended = false; exited = false; taken = 0 }
     pub sound : IsSound tells r
 
   abbrev pub is_kept : Row K → Bool

@@ -368,7 +368,10 @@ impl<K: Kid> Row<K> {
                 self.wanted = false;
                 Event::ChildBytes { k: self.k, bytes }
             }
-            Err(NoMemory) => Event::NoRoom { c: self.c },
+            Err(NoMemory) => {
+                self.wanted = false;
+                Event::NoRoom { c: self.c }
+            }
         }
     }
 
@@ -405,12 +408,13 @@ impl<K: Kid> Row<K> {
 }
 
 // Feeds bytes from the index `moved` on, as far as there is room.
-#[tactic(auto, using(crate::proofs::Steps::moved_more))]
+#[tactic(auto, using(crate::proofs::Steps::moved_more, crate::proofs::Steps::fed_longer))]
 fn feed_from(feeder: &mut Feeder, held: &[u8], moved: usize) -> usize
     requires open { is_open feeder.old ≡ true }
     requires moved { moved ≤ length held.now }
     ensures within { moved + result ≤ length held.now }
     ensures fed { fed feeder.new ++ drop (moved + result) held.now ≡ fed feeder.old ++ drop moved held.now }
+    ensures grew { length (fed feeder.new) ≡ length (fed feeder.old) + result }
     ensures open { is_open feeder.new ≡ true }
 {
     feeder.feed(&held[moved..])

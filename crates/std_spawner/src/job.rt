@@ -1,18 +1,19 @@
 // What a pump's thread runs.
 use super::bell::Bell;
-use super::pipes::{ChildInput, ChildOutput};
+use super::pipes::{ChildInput, ChildOutput, StandardInput};
 use pump_pool::{InJob, Job, OutJob, Station};
 use std::sync::Wait;
 use std::thread::Threads;
 
-/// One pump of a child.
+/// One pump of a child, or the one of standard input.
 #[derive(Drop)]
 pub(crate) enum Pump {
     Output(OutJob<ChildOutput>),
     Input(InJob<ChildInput>),
+    Client(OutJob<StandardInput>),
 }
 
-/// One pump of a child, after which the loop is woken.
+/// One pump, after which the loop is woken.
 #[derive(Drop)]
 pub struct PumpJob {
     pump: Pump,
@@ -39,6 +40,7 @@ impl Job for PumpJob {
         match pump {
             Pump::Output(job) => job.run(rt),
             Pump::Input(job) => job.run(rt),
+            Pump::Client(job) => job.run(rt),
         }
         bell.ring();
     }

@@ -16,6 +16,6 @@ mod threads;
 pub use bell::Bell;
 pub use job::PumpJob;
 pub use kid::StdKid;
-pub use pipes::{ChildInput, ChildOutput};
+pub use pipes::{BelledPipe, ChildInput, ChildOutput, StandardInput};
 pub use spawner::StdSpawner;
 pub use threads::{StartThread, ThreadStarter};

@@ -1,25 +1,31 @@
-// Our ends of a child's pipes.
+// Our ends of a child's pipes, and standard input.
 ghost use Rattle.std.specs.Prelude.{◌≡◌, ◌<◌, ◌≤◌, IfSome, length};
 
 use super::bell::Bell;
 use pipe_pump::{PipeIn, PipeOut, PipeRead, PipeWrite};
-use std::io::{Read, Write};
+use std::io::{Read, Stdin, Write};
 use std::process::{ChildStdin, ChildStdout};
 
-/// A child's output. It rings before it waits for more, where it gave bytes since it last rang.
+/// A pipe that bytes come from. It rings before it waits for more, where it gave bytes since it last rang.
 #[derive(Drop)]
-pub struct ChildOutput {
-    pipe: ChildStdout,
+pub struct BelledPipe<P> {
+    pipe: P,
     bell: Bell,
     gave: bool,
     faults: u64,
 }
 
-impl ChildOutput {
-    pub(crate) fn new(pipe: ChildStdout, bell: Bell) -> Self
+/// A child's output.
+pub type ChildOutput = BelledPipe<ChildStdout>;
+
+/// Standard input.
+pub type StandardInput = BelledPipe<Stdin>;
+
+impl<P> BelledPipe<P> {
+    pub(crate) fn new(pipe: P, bell: Bell) -> Self
         ensures faults { result.faults ≡ 0 }
     {
-        ChildOutput {
+        BelledPipe {
             pipe,
             bell,
             gave: false,
@@ -28,7 +34,7 @@ impl ChildOutput {
     }
 }
 
-impl PipeIn for ChildOutput {
+impl<P: Read> PipeIn for BelledPipe<P> {
     ghost use Rattle.std.specs.Prelude.{None};
 
     ghost left = { λ _. None };

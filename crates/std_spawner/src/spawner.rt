@@ -8,13 +8,14 @@ use super::command::spawn;
 use super::input::{Held, Input};
 use super::job::{Pump, PumpJob};
 use super::kid::{StdKid, end_process};
-use super::pipes::{ChildInput, ChildOutput};
+use super::pipes::{ChildInput, ChildOutput, StandardInput};
 use super::threads::{IdleThreads, StartThread};
 use child_edge::{SpawnFault, Spawner};
 use host_base::{Launch, NoMemory};
 use pipe_pump::{FeedRing, PumpRing};
-use pump_pool::{InHands, OutHands, Worker};
+use pump_pool::{InHands, OutHands, OutPump, Worker};
 use std::alloc::Global;
+use std::io::Stdin;
 use std::process::{Child, ChildStdin, ChildStdout, Processes, SystemProcess};
 use std::sync::Wait;
 use std::time::Clock;
@@ -91,6 +92,55 @@ impl<R: Drop, T: StartThread + Drop> StdSpawner<R, T> {
             Ok(pumps) => Ok(pumps),
             Err(_) => Err(SpawnFault::NoMemory),
         }
+    }
+}
+
+impl<R: Drop, T: StartThread + Drop> StdSpawner<R, T> {
+    ghost use Rattle.std.specs.Prelude.{◌≡◌, ◌≤◌, IfOk};
+    ghost use Rattle.host_base.specs.Outsides.{Rose};
+    ghost use Rattle.pipe_pump.specs.Rings.{IsFreshRing};
+    ghost use Rattle.pump_pool.specs.Pumps.{ring_of};
+
+    // A thread, a bell for its pump and one for the pump's end, and room for that end.
+    fn begin_input(
+        &mut self,
+        input: Stdin,
+        ring: PumpRing,
+    ) -> Result<OutPump<StandardInput>, SpawnFault>
+        requires { IsFreshRing ring }
+        ensures pump { IfOk result (λ pump. ring_of pump ≡ ring) }
+        ensures count { self.new.faults ≡ self.old.faults }
+    {
+        let thread = self.threads.take()?;
+        let (Ok(bell), Ok(end_bell), Ok(hands)) = (
+            self.bell.another(),
+            self.bell.another(),
+            OutHands::new(self.alloc),
+        ) else {
+            self.threads.put(thread);
+            return Err(SpawnFault::NoMemory);
+        };
+        let (job, pump) = hands.pump(StandardInput::new(input, bell), ring);
+        let _busy = thread.give(PumpJob::new(Pump::Client(job), end_bell));
+        Ok(pump)
+    }
+
+    /// Starts a pump from standard input to a ring. Its thread is not used again.
+    pub fn read_input(
+        &mut self,
+        input: Stdin,
+        ring: PumpRing,
+    ) -> Result<OutPump<StandardInput>, SpawnFault>
+        requires { IsFreshRing ring }
+        ensures pump { IfOk result (λ pump. ring_of pump ≡ ring) }
+        ensures count { self.old.faults ≤ self.new.faults }
+        ensures failed { result ≡ Err SpawnFault.Failed → Rose self.old.faults self.new.faults }
+    {
+        let started = self.begin_input(input, ring);
+        if let Err(SpawnFault::Failed) = &started {
+            self.faults = self.faults.saturating_add(1);
+        }
+        started
     }
 }
 

@@ -1,4 +1,6 @@
 // The threads that wait for a pump.
+ghost use Rattle.std.specs.Prelude.{◌≡◌};
+
 use super::job::PumpJob;
 use child_edge::SpawnFault;
 use host_base::NoMemory;
@@ -21,6 +23,7 @@ pub struct ThreadStarter {
 impl ThreadStarter {
     pub fn new(start: Box<dyn Fn(Station<PumpJob>) -> bool + Send>) -> Self
         requires { IsAlwaysCallable start }
+        ensures { result.start ≡ start }
     {
         ThreadStarter { start }
     }
