@@ -1,1 +1,2 @@
 pub mod GaveLaws
+pub mod StepLaws

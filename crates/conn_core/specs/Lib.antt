@@ -1,2 +1,4 @@
 pub mod Kept
 pub mod Slot
+pub mod Moves
+pub mod Laws

@@ -20,4 +20,4 @@ run_settled (Some v) = is_settled v
 
 -- it is not shut, or its child is not settled
 abbrev pub held_of : Conn → Held
-held_of conn = if conn.shut && run_settled conn.run then No else Yes
+held_of conn = if conn.marks.shut && run_settled conn.run then No else Yes

@@ -64,9 +64,6 @@ impl<'s> Conn<'s> {
         requires { IsStamp now }
         ensures kept { Kept self.old self.new }
     {
-        if self.is_ending() {
-            return;
-        }
         match self.take_stage() {
             Stage::Rejected { cause, bare } => self.ready_fault(cause, bare, true, now),
             Stage::Interrupted(cause) => self.ready_broken(cause, now),

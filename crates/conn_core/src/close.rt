@@ -7,18 +7,24 @@ use host_trace::{Act, Outside, Why};
 
 impl<'s> Conn<'s> {
     ghost use Rattle.std.specs.Prelude.{ℕ, ◌≡◌, IfOk};
+    ghost use Rattle.std.specs.Prelude.{true, false, is_some};
+    ghost use Rattle.conn_marks.specs.View.{is_live};
+    ghost use Rattle.conn_marks.specs.Form.{is_allowed};
+    ghost use Rattle.host_trace.specs.declared.items.Act.TheVariants.{WantClient};
+    ghost use Rattle.host_trace.specs.Kinds.{is_no_memory};
     ghost use Rattle.conn_core.specs.Kept.{Gave, Kept, site_of};
+    ghost use Rattle.conn_core.specs.Moves.{given_up_by};
     // Why the connection is to be shut.
-    fn why(&self) -> Option<Why> {
-        if self.shut {
-            None
-        } else if self.peer.is_none() {
+    fn why(&self) -> Option<Why>
+        ensures { is_some result ≡ true → is_live self.now.marks ≡ true }
+    {
+        if !self.marks.is_live() {
             None
         } else if self.lost {
             Some(Why::NoMemory)
-        } else if self.stopped {
+        } else if self.marks.is_stopped() {
             Some(Why::Stopped)
-        } else if self.gone {
+        } else if self.marks.is_gone() {
             Some(Why::Gone)
         } else if let Some(cause) = self.cut {
             Some(Why::Cut(cause))
@@ -42,19 +48,22 @@ impl<'s> Conn<'s> {
     }
 
     pub(crate) fn shut_for<O: Outside>(&mut self, why: Why, out: &mut O)
+        requires { is_live self.old.marks ≡ true }
         ensures gave { (n : ℕ) → Gave self.old n (O.trace out.old) self.new n (O.trace out.new) }
         ensures limit { O.limit out.new ≡ O.limit out.old }
     {
-        give_plain(&Act::Shut { c: self.c, why }, out);
+        let number = self.marks.c();
+        give_plain(&Act::Shut { c: number, why }, out);
+        self.marks.shut();
         self.note_shut(why);
     }
 
     // A child of a connection that is shut for want of memory is given up.
     fn note_shut(&mut self, why: Why)
+        ensures value { self.new ≡ record self.old { run = given_up_by (is_no_memory why) self.old.run } }
         ensures kept { Kept self.old self.new }
     {
-        self.shut = true;
-        if why == Why::NoMemory {
+        if matches!(why, Why::NoMemory) {
             self.end_run(Ending::Dropped);
         }
     }
@@ -62,7 +71,7 @@ impl<'s> Conn<'s> {
     // Whether the client may be heard: within a request that nothing was done for, or within a body that is fed.
     fn may_hear(&self) -> bool {
         match &self.stage {
-            Stage::Reading => !self.ended,
+            Stage::Reading => !self.marks.has_ended(),
             Stage::Running(leg) => leg.hop == 0 && !self.request.is_whole() && self.takes_more(),
             _ => false,
         }
@@ -80,10 +89,24 @@ impl<'s> Conn<'s> {
         ensures gave { (n : ℕ) → Gave self.old n (O.trace out.old) self.new n (O.trace out.new) }
         ensures limit { O.limit out.new ≡ O.limit out.old }
     {
-        if self.is_ending() || !self.has_room() || !self.may_hear() || self.asked {
-            return;
+        if self.is_ask_due() {
+            self.ask(out);
         }
-        give_plain(&Act::WantClient { c: self.c }, out);
-        self.asked = true;
+    }
+
+    fn is_ask_due(&self) -> bool
+        ensures { result ≡ true → is_allowed self.now.marks (WantClient self.now.marks.c) ≡ true }
+    {
+        !self.is_ending() && self.has_room() && self.may_hear() && !self.marks.is_asked()
+    }
+
+    fn ask<O: Outside>(&mut self, out: &mut O)
+        requires { is_allowed self.old.marks (WantClient self.old.marks.c) ≡ true }
+        ensures gave { (n : ℕ) → Gave self.old n (O.trace out.old) self.new n (O.trace out.new) }
+        ensures limit { O.limit out.new ≡ O.limit out.old }
+    {
+        let number = self.marks.c();
+        give_plain(&Act::WantClient { c: number }, out);
+        self.marks.ask();
     }
 }

@@ -1,6 +1,7 @@
 // The state of a connection, and a step.
 use crate::stage::Stage;
 use child_core::Run;
+use conn_marks::Marks;
 use exchange_request::Incoming;
 use host_base::{Cause, Peer, Site};
 use host_trace::{Event, Outside, Why};
@@ -21,28 +22,18 @@ pub enum Held {
 pub struct Conn<'s> {
     pub(crate) site: &'s Site,
     pub(crate) alloc: Global,
-    pub(crate) c: u64,
+    /// What was heard and done of it beside its exchanges.
+    pub(crate) marks: Marks,
     /// The client, once it was accepted.
     pub(crate) peer: Option<Peer>,
-    /// Stop was heard.
-    pub(crate) stopped: bool,
-    /// The connection failed.
-    pub(crate) gone: bool,
-    pub(crate) shut: bool,
     /// Memory was wanting.
     pub(crate) lost: bool,
-    /// The client was asked and has not answered.
-    pub(crate) asked: bool,
-    /// The client ended its input.
-    pub(crate) ended: bool,
     /// No request began within the idle time.
     pub(crate) idled: bool,
     /// An answer that closes the connection stands whole.
     pub(crate) closing: bool,
     /// A reply that had begun can't be finished, for this cause.
     pub(crate) cut: Option<Cause>,
-    /// How many bytes were written that no Wrote has reported.
-    pub(crate) pending: u64,
     /// The number of the exchange.
     pub(crate) number: u128,
     /// Ticks until the client has sent nothing for the idle time.
@@ -58,8 +49,9 @@ pub struct Conn<'s> {
 
 impl<'s> Conn<'s> {
     ghost use Rattle.std.specs.Prelude.{ℕ, ◌≡◌, IfOk};
-    ghost use Rattle.std.specs.Prelude.{None};
-    ghost use Rattle.conn_core.specs.Kept.{Gave, Kept, number_of, site_of};
+    ghost use Rattle.std.specs.Prelude.{None, true, false};
+    ghost use Rattle.conn_marks.specs.View.{fresh, has_room, may_write};
+    ghost use Rattle.conn_core.specs.Kept.{Gave, Kept, Stepped, marks_of, number_of, peer_of, site_of};
     ghost use Rattle.conn_core.specs.Slot.{child_of, held_of, run_settled};
     ghost use Rattle.reply_writer.specs.WholeRules.{IsStamp};
     ghost use Rattle.host_base.specs.SiteRules.{IsServed};
@@ -67,23 +59,19 @@ impl<'s> Conn<'s> {
     pub fn new(alloc: Global, site: &'s Site, c: u64) -> Self
         ensures site { site_of result ≡ site.now }
         ensures number { number_of result ≡ c }
+        ensures marks { marks_of result ≡ fresh c }
+        ensures peer { peer_of result ≡ None }
         ensures child { child_of result ≡ None }
     {
         Conn {
             site,
             alloc,
-            c,
+            marks: Marks::new(c),
             peer: None,
-            stopped: false,
-            gone: false,
-            shut: false,
             lost: false,
-            asked: false,
-            ended: false,
             idled: false,
             closing: false,
             cut: None,
-            pending: 0,
             number: 0,
             idle_left: Deadline::after(site.limits.idle_ticks),
             request: Incoming::new(alloc, &site.limits),
@@ -105,7 +93,7 @@ impl<'s> Conn<'s> {
     ) -> Held
         requires stamp { IsStamp now }
         requires served { IsServed (site_of self.old) }
-        ensures gave { Gave self.old children.old (O.trace out.old) self.new children.new (O.trace out.new) }
+        ensures gave { Stepped self.old ev children.old (O.trace out.old) self.new children.new (O.trace out.new) }
         ensures held { result ≡ held_of self.new }
         ensures limit { O.limit out.new ≡ O.limit out.old }
     {
@@ -116,12 +104,12 @@ impl<'s> Conn<'s> {
         self.held()
     }
 
-    /// Shuts the connection for a reason of its caller. It takes no memory.
+    /// Shuts the connection for a reason of its caller, unless it is shut or was not accepted. It takes no memory.
     pub fn drop_it<O: Outside>(&mut self, why: Why, out: &mut O)
         ensures gave { (n : ℕ) → Gave self.old n (O.trace out.old) self.new n (O.trace out.new) }
         ensures limit { O.limit out.new ≡ O.limit out.old }
     {
-        if !self.shut {
+        if self.marks.is_live() {
             self.shut_for(why, out);
         }
     }
@@ -140,7 +128,7 @@ impl<'s> Conn<'s> {
     pub fn held(&self) -> Held
         ensures { result ≡ held_of self.now }
     {
-        if self.shut && self.is_settled() {
+        if self.marks.is_shut() && self.is_settled() {
             Held::No
         } else {
             Held::Yes
@@ -179,16 +167,20 @@ impl<'s> Conn<'s> {
     }
 
     /// Not too much waits to be sent.
-    pub(crate) fn has_room(&self) -> bool {
-        self.shut || self.pending <= 262_144
+    pub(crate) fn has_room(&self) -> bool
+        ensures { result ≡ has_room self.now.marks }
+    {
+        self.marks.has_room()
     }
 
     /// Nothing more is answered, begun or asked.
-    pub(crate) fn is_ending(&self) -> bool {
-        self.peer.is_none()
-            || self.stopped
-            || self.gone
-            || self.shut
+    pub(crate) fn is_ending(&self) -> bool
+        ensures live { result ≡ false → may_write self.now.marks ≡ true }
+        ensures stopped { result ≡ false → self.now.marks.stopped ≡ false }
+    {
+        !self.marks.may_write()
+            || self.marks.is_stopped()
+            || self.marks.is_gone()
             || self.lost
             || self.idled
             || self.closing
@@ -198,6 +190,6 @@ impl<'s> Conn<'s> {
 
     /// The client ended its input, and no request has begun.
     pub(crate) fn is_client_done(&self) -> bool {
-        self.ended && matches!(self.stage, Stage::Reading) && !self.request.has_begun()
+        self.marks.has_ended() && matches!(self.stage, Stage::Reading) && !self.request.has_begun()
     }
 }

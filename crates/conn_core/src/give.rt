@@ -22,10 +22,14 @@ pub fn give_plain<O: Outside>(act: &Act, out: &mut O)
 }
 
 impl<'s> Conn<'s> {
-    ghost use Rattle.std.specs.Prelude.{ℕ, ◌≡◌, IfOk};
+    ghost use Rattle.std.specs.Prelude.{ℕ, ◌≡◌, IfOk, true};
+    ghost use Rattle.conn_marks.specs.View.{may_write};
+    ghost use Rattle.conn_marks.specs.Form.{may_start};
     ghost use Rattle.conn_core.specs.Kept.{Gave, Kept, site_of};
+    ghost use Rattle.conn_core.specs.Moves.{ended_run, losing};
     // Memory was wanting: the connection is over, and its child is given up.
     pub(crate) fn lose(&mut self)
+        ensures value { self.new ≡ losing self.old }
         ensures kept { Kept self.old self.new }
     {
         self.lost = true;
@@ -33,6 +37,7 @@ impl<'s> Conn<'s> {
     }
 
     pub(crate) fn end_run(&mut self, ending: Ending)
+        ensures value { self.new ≡ record self.old { run = ended_run ending self.old.run } }
         ensures kept { Kept self.old self.new }
     {
         if let Some(run) = &mut self.run {
@@ -42,6 +47,7 @@ impl<'s> Conn<'s> {
 
     // Writes bytes, of which there may be none; false where there was no room.
     fn write<O: Outside>(&mut self, bytes: Bytes, out: &mut O) -> bool
+        requires { may_write self.old.marks ≡ true }
         ensures gave { (n : ℕ) → Gave self.old n (O.trace out.old) self.new n (O.trace out.new) }
         ensures limit { O.limit out.new ≡ O.limit out.old }
     {
@@ -49,9 +55,15 @@ impl<'s> Conn<'s> {
             return true;
         }
         let len = bytes.len() as u64;
-        match out.act(&Act::Write { c: self.c, bytes }) {
+        if !self.marks.can_count(len) {
+            self.lose();
+            return false;
+        }
+        let number = self.marks.c();
+        let act = Act::Write { c: number, bytes };
+        match out.act(&act) {
             Acted::Done => {
-                self.pending = self.pending.saturating_add(len);
+                self.marks.write(len);
                 true
             }
             Acted::NoRoom => {
@@ -79,22 +91,38 @@ impl<'s> Conn<'s> {
     }
 
     fn note_continued(&mut self, found: bool)
+        ensures value { self.new ≡ record self.old { continued = found } }
         ensures kept { Kept self.old self.new }
     {
         self.continued = found;
     }
 
-    pub(crate) fn is_continue_due(&self) -> bool {
+    pub(crate) fn is_continue_due(&self) -> bool
+        ensures { result ≡ true → may_write self.now.marks ≡ true }
+    {
         !self.is_ending() && self.request.is_due() && !self.continued
     }
 
-    // Gives what is ready: a part or the rest of an answer, or a Start.
-    pub(crate) fn give<O: Outside>(&mut self, children: &mut u64, out: &mut O)
-        ensures gave { Gave self.old children.old (O.trace out.old) self.new children.new (O.trace out.new) }
+    // Gives what is ready of an answer: a part, or all that is left.
+    pub(crate) fn give_answer<O: Outside>(&mut self, out: &mut O)
+        requires { may_write self.old.marks ≡ true }
+        ensures gave { (n : ℕ) → Gave self.old n (O.trace out.old) self.new n (O.trace out.new) }
         ensures limit { O.limit out.new ≡ O.limit out.old }
     {
         match self.take_stage() {
             Stage::Running(leg) => self.give_part(leg, out),
+            Stage::Finishing { text, closes } => self.give_rest(text, closes, out),
+            stage => self.put(stage),
+        }
+    }
+
+    // Gives what is ready of a hop: a Start, or the reply for a cause that was found there.
+    pub(crate) fn give_hop<O: Outside>(&mut self, children: &mut u64, out: &mut O)
+        requires { may_start self.old.marks ≡ true }
+        ensures gave { Gave self.old children.old (O.trace out.old) self.new children.new (O.trace out.new) }
+        ensures limit { O.limit out.new ≡ O.limit out.old }
+    {
+        match self.take_stage() {
             Stage::Finishing { text, closes } => self.give_rest(text, closes, out),
             Stage::Starting {
                 leg,
@@ -112,6 +140,7 @@ impl<'s> Conn<'s> {
     }
 
     fn give_part<O: Outside>(&mut self, leg: Leg, out: &mut O)
+        requires { may_write self.old.marks ≡ true }
         ensures gave { (n : ℕ) → Gave self.old n (O.trace out.old) self.new n (O.trace out.new) }
         ensures limit { O.limit out.new ≡ O.limit out.old }
     {
@@ -122,6 +151,7 @@ impl<'s> Conn<'s> {
     }
 
     fn give_rest<O: Outside>(&mut self, text: Bytes, closes: bool, out: &mut O)
+        requires { may_write self.old.marks ≡ true }
         ensures gave { (n : ℕ) → Gave self.old n (O.trace out.old) self.new n (O.trace out.new) }
         ensures limit { O.limit out.new ≡ O.limit out.old }
     {
@@ -157,7 +187,8 @@ impl<'s> Conn<'s> {
         children: &mut u64,
         out: &mut O,
     )
-        requires { run.number ≡ children.old }
+        requires number { run.number ≡ children.old }
+        requires may { may_start self.old.marks ≡ true }
         ensures gave { Gave self.old children.old (O.trace out.old) self.new children.new (O.trace out.new) }
         ensures limit { O.limit out.new ≡ O.limit out.old }
     {
@@ -166,9 +197,10 @@ impl<'s> Conn<'s> {
             self.lose();
             return;
         };
+        let number = self.marks.c();
         let act = Act::Start {
             k,
-            c: self.c,
+            c: number,
             j: self.number,
             hop: leg.hop,
             launch,

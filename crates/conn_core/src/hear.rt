@@ -2,55 +2,51 @@
 use crate::conn::Conn;
 use crate::stage::Stage;
 use child_core::Ending;
-use host_base::{Bytes, Cause};
+use host_base::{Bytes, Cause, Peer};
 use host_trace::Event;
 use limit_clock::Deadline;
 
 impl<'s> Conn<'s> {
     ghost use Rattle.std.specs.Prelude.{ℕ, ◌≡◌, IfOk};
-    ghost use Rattle.conn_core.specs.Kept.{Gave, Kept, site_of};
+    ghost use Rattle.std.specs.Prelude.{Some};
+    ghost use Rattle.host_trace.specs.First.{or_else};
+    ghost use Rattle.conn_core.specs.Kept.{Heard, Kept, KeptFor, peer_after, peer_of};
     // Takes an event into account, and gives no act.
     pub(crate) fn hear(&mut self, ev: Event)
-        ensures kept { Kept self.old self.new }
+        ensures heard { Heard self.old ev self.new }
     {
+        self.marks.hear(&ev);
         self.hear_run(&ev);
         self.hear_own(ev);
         self.settle();
     }
 
     fn hear_own(&mut self, ev: Event)
-        ensures kept { Kept self.old self.new }
+        ensures kept { KeptFor (peer_after (peer_of self.old) ev) self.old self.new }
     {
         match ev {
             Event::Accepted { peer } => self.hear_accepted(peer),
             Event::ClientBytes { c, bytes } => {
-                if self.c == c {
+                if self.marks.c() == c {
                     self.hear_bytes(bytes);
                 }
             }
             Event::ClientEof { c } => {
-                if self.c == c {
+                if self.marks.c() == c {
                     self.hear_end();
                 }
             }
             Event::ClientGone { c } | Event::WsBad { c } => {
-                if self.c == c {
-                    self.gone = true;
+                if self.marks.c() == c {
                     self.end_run(Ending::Gone);
                 }
             }
-            Event::Wrote { c, n } => {
-                if self.c == c {
-                    self.pending = self.pending.saturating_sub(n);
-                }
-            }
             Event::NoRoom { c } => {
-                if self.c == c {
+                if self.marks.c() == c {
                     self.lose();
                 }
             }
             Event::Tick { .. } => self.hear_tick(),
-            Event::Stop => self.stopped = true,
             _ => {}
         }
     }
@@ -68,8 +64,8 @@ impl<'s> Conn<'s> {
         }
     }
 
-    fn hear_accepted(&mut self, peer: host_base::Peer)
-        ensures kept { Kept self.old self.new }
+    fn hear_accepted(&mut self, peer: Peer)
+        ensures kept { KeptFor (or_else (peer_of self.old) (Some peer)) self.old self.new }
     {
         if self.peer.is_none() {
             self.peer = Some(peer);
@@ -80,7 +76,6 @@ impl<'s> Conn<'s> {
     fn hear_bytes(&mut self, bytes: Bytes)
         ensures kept { Kept self.old self.new }
     {
-        self.asked = false;
         self.idle_left = Deadline::after(self.site.limits.idle_ticks);
         match self.request.feed(bytes.as_slice()) {
             Ok(()) => self.hear_body(),
@@ -122,8 +117,6 @@ impl<'s> Conn<'s> {
     fn hear_end(&mut self)
         ensures kept { Kept self.old self.new }
     {
-        self.asked = false;
-        self.ended = true;
         if self.request.is_whole() {
             return;
         }
@@ -145,7 +138,7 @@ impl<'s> Conn<'s> {
             Stage::Reading | Stage::Refused(_) | Stage::Unstarted { .. } => self.run.is_none(),
             _ => false,
         };
-        if untouched && !self.shut && self.request.has_begun() {
+        if untouched && !self.marks.is_shut() && self.request.has_begun() {
             self.put(Stage::Interrupted(cause));
         }
     }

@@ -7,6 +7,8 @@ use host_trace::Outside;
 
 impl<'s> Conn<'s> {
     ghost use Rattle.std.specs.Prelude.{ℕ, ◌≡◌, IfOk};
+    ghost use Rattle.std.specs.Prelude.{true};
+    ghost use Rattle.conn_marks.specs.Form.{may_start};
     ghost use Rattle.conn_core.specs.Kept.{Gave, Kept, site_of};
     ghost use Rattle.reply_writer.specs.WholeRules.{IsStamp};
     ghost use Rattle.host_base.specs.SiteRules.{IsServed};
@@ -17,7 +19,7 @@ impl<'s> Conn<'s> {
         ensures gave { Gave self.old children.old (O.trace out.old) self.new children.new (O.trace out.new) }
         ensures limit { O.limit out.new ≡ O.limit out.old }
     {
-        self.answer(now, children, out);
+        self.answer(now, out);
         self.handle(out);
         // each exchange that ends in the step takes a byte of the client
         let most = self.request.kept_len();
@@ -46,15 +48,18 @@ impl<'s> Conn<'s> {
     }
 
     // Reads what came, and gives what is due of the answer.
-    fn answer<O: Outside>(&mut self, now: Option<u64>, children: &mut u64, out: &mut O)
+    fn answer<O: Outside>(&mut self, now: Option<u64>, out: &mut O)
         requires stamp { IsStamp now }
-        ensures gave { Gave self.old children.old (O.trace out.old) self.new children.new (O.trace out.new) }
+        ensures gave { (n : ℕ) → Gave self.old n (O.trace out.old) self.new n (O.trace out.new) }
         ensures limit { O.limit out.new ≡ O.limit out.old }
     {
         self.look();
         self.let_continue(out);
+        if self.is_ending() {
+            return;
+        }
         self.ready_answer(now);
-        self.give(children, out);
+        self.give_answer(out);
     }
 
     // Looks for a request that can be served.
@@ -109,7 +114,9 @@ impl<'s> Conn<'s> {
     }
 
     // A hop may begin, or what was found on the way to it be answered.
-    fn has_turn(&self) -> bool {
+    fn has_turn(&self) -> bool
+        ensures { result ≡ true → may_start self.now.marks ≡ true }
+    {
         !self.is_ending() && self.is_settled() && self.has_room()
     }
 
@@ -128,11 +135,11 @@ impl<'s> Conn<'s> {
         ensures gave { Gave self.old children.old (O.trace out.old) self.new children.new (O.trace out.new) }
         ensures limit { O.limit out.new ≡ O.limit out.old }
     {
-        self.answer(now, children, out);
+        self.answer(now, out);
         if !self.has_turn() {
             return;
         }
         self.ready_hop(now);
-        self.give(children, out);
+        self.give_hop(children, out);
     }
 }

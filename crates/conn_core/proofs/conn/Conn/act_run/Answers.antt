@@ -6,4 +6,4 @@ use Rattle.conn_core.proofs.conn.Conn.act_run.Goals as goal
 pub returns-in-Some-clause-gave : goal.returns-in-Some-clause-gave
 returns-in-Some-clause-gave g c n =
     gave_run (is_ok c.act.result) c.has_room-may_want.result c.in-Some.run' c.in-Some.is (ap (λ (v : View). Some v) c.act.ensures.run)
-    c.act.ensures.told refl refl
+    c.act.ensures.told refl refl refl

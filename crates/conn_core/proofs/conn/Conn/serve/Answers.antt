@@ -7,7 +7,7 @@ use Rattle.conn_core.proofs.conn.Conn.serve.Goals as goal
 
 pub go_on_for-requires-clause-served : goal.go_on_for-requires-clause-served
 go_on_for-requires-clause-served g c =
-    subst IsServed (sym ((c.handle.ensures.gave c.answer.new.children).site ∙ c.answer.ensures.gave.site)) c.requires.served
+    subst IsServed (sym ((c.handle.ensures.gave c.args.children.now).site ∙ (c.answer.ensures.gave c.args.children.now).site)) c.requires.served
 
 pub returns-clause-gave : goal.returns-clause-gave
-returns-clause-gave g c = gave_then c.answer.ensures.gave (gave_then (c.handle.ensures.gave c.answer.new.children) c.go_on_for.ensures.gave)
+returns-clause-gave g c = gave_then (c.answer.ensures.gave c.args.children.now) (gave_then (c.handle.ensures.gave c.args.children.now) c.go_on_for.ensures.gave)

@@ -1,7 +1,16 @@
-use Rattle.std.proofs.Common.{refl, sym, subst}
-use Rattle.host_trace.specs.declared.items.Act.TheVariants.{WantClient, Shut}
-use Rattle.conn_core.proofs.GaveLaws.{gave_after, gave_before, gave_plain, gave_then}
+use Rattle.std.proofs.Common.{refl, sym, ap, ◌∙◌, ℕ, true}
+use Rattle.std.proofs.lemmas.Bool.{and_from}
+use Rattle.host_trace.specs.declared.items.Act.TheVariants.{Shut}
+use Rattle.host_trace.specs.declared.items.Item.TheVariants.{Out}
+use Rattle.conn_marks.specs.View.{is_live, noted}
+use Rattle.conn_core.proofs.GaveLaws.{gave_plain, kept_then}
 use Rattle.conn_core.proofs.conn.Conn.shut_for.Goals as goal
 
 pub returns-clause-gave : goal.returns-clause-gave
-returns-clause-gave g c n = gave_plain (Shut c.args.self.now.c c.args.why) refl c.give_plain.ensures.told c.note_shut.ensures.kept
+returns-clause-gave g c n =
+    gave_plain (Shut c.c-number.result c.args.why) c.c-number.ensures (and_from (is_live c.args.self.now.marks) true c.requires refl) c.give_plain.ensures.told (kept_then (record {
+      site = refl;
+      marks = c.shut.ensures c.args.why ∙ ap (λ (k : ℕ). noted c.args.self.now.marks (Out (Shut k c.args.why))) (sym c.c-number.ensures);
+      peer_is = refl;
+      child = λ ks w. w;
+    }) c.note_shut.ensures.kept)

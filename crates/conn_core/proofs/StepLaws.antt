@@ -1,0 +1,39 @@
+-- What is known of a connection's list after a step.
+use Rattle.std.proofs.Common.{◌≡◌, ℕ, Bool, true, List, [], ◌∷◌, ◌++◌, map, Option, refl, sym, subst, append_assoc}
+use Rattle.host_trace.specs.declared.items.Event.{Event}
+use Rattle.host_trace.specs.declared.items.Item.{Item}
+use Rattle.host_trace.specs.declared.items.Item.TheVariants.{In, Out}
+use Rattle.host_trace.specs.Trace.{after_step}
+use Rattle.own_traces.specs.OwnFits.{fits_own}
+use Rattle.conn_marks.specs.View.{View as Marks, noted}
+use Rattle.conn_marks.specs.Form.{given_all}
+use Rattle.conn_marks.specs.Knows.{Knows as KnowsMarks}
+use Rattle.conn_marks.proofs.KnowsLaws.{events_admitted, known_all, known_next}
+use Rattle.conn_laws.specs.Form.{all_come, all_in_time}
+use Rattle.conn_laws.proofs.FormLaws.{acts_come, acts_in_time}
+use Rattle.conn_core.specs.declared.conn.Conn.{Conn}
+use Rattle.conn_core.specs.Kept.{HasChildIn, Stepped, marks_of, number_of}
+
+event_known : (limit : ℕ) (m : Marks) (L : List Item) (ev : Event) → KnowsMarks m L → fits_own limit L ev ≡ true → KnowsMarks (noted m (In ev)) (L ++ In ev ∷ [])
+event_known limit m L ev k f = known_next m L (In ev) k (events_admitted limit m L ev k f)
+
+pub step_known : (limit : ℕ) (old new : Conn) (ev : Event) (n m : ℕ) (before after : Option (List Item)) (L : List Item)
+    → (s : Stepped old ev n before new m after) → KnowsMarks (marks_of old) L → fits_own limit L ev ≡ true
+    → KnowsMarks (marks_of new) (after_step L ev s.acts)
+step_known limit old new ev n m before after L s k f =
+    let all : KnowsMarks (given_all (noted (marks_of old) (In ev)) s.acts) ((L ++ In ev ∷ []) ++ map Out s.acts) =
+    known_all (noted (marks_of old) (In ev)) (L ++ In ev ∷ []) s.acts (event_known limit (marks_of old) L ev k f) s.form in
+    subst (λ (v : Marks). KnowsMarks v (after_step L ev s.acts)) (sym s.marks)
+    (subst (λ (l : List Item). KnowsMarks (given_all (noted (marks_of old) (In ev)) s.acts) l) (append_assoc L (In ev ∷ []) (map Out s.acts)) all)
+
+pub step_in_form : (limit : ℕ) (old new : Conn) (ev : Event) (n m : ℕ) (before after : Option (List Item)) (L : List Item) (ks : List ℕ)
+    → (s : Stepped old ev n before new m after) → KnowsMarks (marks_of old) L → HasChildIn old ks → fits_own limit L ev ≡ true
+    → all_come (L ++ In ev ∷ []) s.acts ≡ true
+step_in_form limit old new ev n m before after L ks s k w f =
+    acts_come (noted (marks_of old) (In ev)) (L ++ In ev ∷ []) ks n s.acts (event_known limit (marks_of old) L ev k f) (s.own ks w).are s.form
+
+pub step_in_time : (limit : ℕ) (old new : Conn) (ev : Event) (n m : ℕ) (before after : Option (List Item)) (L : List Item)
+    → (s : Stepped old ev n before new m after) → KnowsMarks (marks_of old) L → fits_own limit L ev ≡ true
+    → all_in_time (number_of old) (L ++ In ev ∷ []) s.acts ≡ true
+step_in_time limit old new ev n m before after L s k f =
+    acts_in_time (noted (marks_of old) (In ev)) (L ++ In ev ∷ []) s.acts (event_known limit (marks_of old) L ev k f) s.form

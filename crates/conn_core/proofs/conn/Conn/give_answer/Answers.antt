@@ -1,0 +1,8 @@
+use Rattle.conn_core.proofs.GaveLaws.{gave_after}
+use Rattle.conn_core.proofs.conn.Conn.give_answer.Goals as goal
+
+pub returns-in-Running-clause-gave : goal.returns-in-Running-clause-gave
+returns-in-Running-clause-gave g c n = gave_after c.take_stage.ensures.kept (c.give_part.ensures.gave n)
+
+pub returns-in-Finishing-clause-gave : goal.returns-in-Finishing-clause-gave
+returns-in-Finishing-clause-gave g c n = gave_after c.take_stage.ensures.kept (c.give_rest.ensures.gave n)

@@ -1,0 +1,17 @@
+// Laws of the steps of a connection. Each function is one law, and does nothing.
+ghost use Rattle.conn_core.specs.Laws.{StepsAreKnown, StepsAreInForm, StepsAreInTime};
+
+/// The marks of a connection know its list after each step of an event that fits.
+pub fn steps_are_known()
+    ensures { StepsAreKnown }
+{}
+
+/// The acts of such a step on the connection come in form.
+pub fn steps_are_in_form()
+    ensures { StepsAreInForm }
+{}
+
+/// Its Starts and questions wait for room, and come before the server is to end.
+pub fn steps_are_in_time()
+    ensures { StepsAreInTime }
+{}
