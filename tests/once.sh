@@ -1,14 +1,7 @@
 #!/usr/bin/env bash
 # Drives the built program as a user would: one connection over standard input and output, with scripts of
 # its own. It wants the program that `rt ci` leaves, and works in a temporary folder.
-set -u
-export LC_ALL=C
-program=${CGIHOST:-$(cd "$(dirname "$0")/.." && pwd)/crates/cgihost/out/cgihost}
-folder=$(mktemp -d)
-trap 'rm -rf "$folder"' EXIT
-cd "$folder" || exit 1
-passed=0
-failed=0
+. "$(dirname "$0")/common.sh"
 
 # A script with a name and a body for sh.
 script() {
@@ -25,15 +18,6 @@ get() {
 reply() {
     printf 'HTTP/1.1 %s\r\nContent-Type: text/plain\r\nContent-Length: %s\r\nConnection: close\r\n\r\n' "$1" "$2"
     [ $# -lt 3 ] || printf '%s\n' "$3"
-}
-
-ok() {
-    passed=$((passed + 1))
-}
-
-bad() {
-    failed=$((failed + 1))
-    echo "failed: $1"
 }
 
 # Compares what was written with what is wanted, and the status.
@@ -173,5 +157,4 @@ refused 'once with a file' once site
 refused 'a command that is none' twice /hello=/bin/cat
 refused 'a word that is not UTF-8' once $'/hello=/bin/\xff'
 
-echo "$passed passed, $failed failed"
-[ "$failed" = 0 ]
+count

@@ -1,23 +1,14 @@
 #!/usr/bin/env bash
 # Tries the manual pages of docs/: they format without a warning, and each site file that one shows is taken by the
 # built program as the page says. It wants the program that `rt ci` leaves, and works in a temporary folder.
-set -u
-export LC_ALL=C
-root=$(cd "$(dirname "$0")/.." && pwd)
-program=${CGIHOST:-$root/crates/cgihost/out/cgihost}
-folder=$(mktemp -d)
-trap 'rm -rf "$folder"' EXIT
-cd "$folder" || exit 1
-passed=0
-failed=0
+. "$(dirname "$0")/common.sh"
 
 # The names are the same text.
 same() {
     if [ "$2" = "$3" ]; then
-        passed=$((passed + 1))
+        ok
     else
-        failed=$((failed + 1))
-        echo "failed: $1: $2, where $3 was wanted"
+        bad "$1: $2, where $3 was wanted"
     fi
 }
 
@@ -37,5 +28,4 @@ same 'the first site' "$("$program" check 1 2>&1)" 'ok: 2 scripts'
 same 'the second site' "$("$program" check 2 2>&1)" 'ok: 3 scripts'
 same 'there are two sites' "$(ls ./*[0-9] | wc -l)" 2
 
-echo "$passed passed, $failed failed"
-[ "$failed" = 0 ]
+count

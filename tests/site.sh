@@ -2,24 +2,7 @@
 # Drives the commands of the built program that need no loop: check, upgrade, --help and --version, over the
 # site files of examples/ and over others. It wants the program that `rt ci` leaves, and works in a temporary
 # folder.
-set -u
-export LC_ALL=C
-root=$(cd "$(dirname "$0")/.." && pwd)
-program=${CGIHOST:-$root/crates/cgihost/out/cgihost}
-folder=$(mktemp -d)
-trap 'rm -rf "$folder"' EXIT
-cd "$folder" || exit 1
-passed=0
-failed=0
-
-ok() {
-    passed=$((passed + 1))
-}
-
-bad() {
-    failed=$((failed + 1))
-    echo "failed: $1"
-}
+. "$(dirname "$0")/common.sh"
 
 # Runs the program with these words: what it wrote stands in `out`, what it said in `err`.
 run() {
@@ -166,5 +149,4 @@ says 2 "$usage" upgrade
 says 2 "$usage" --help --version
 says 2 "$usage" --hel
 
-echo "$passed passed, $failed failed"
-[ "$failed" = 0 ]
+count
