@@ -149,7 +149,7 @@ chunks_advance limit o read bytes taken step h step_is = go (read_chunked limit 
         )
     go (refused cause) is =
         let told : Told.Bad cause ≡ step = sym (step_is ∙ ap (chunk_step (length read)) is) in
-        subst at told is
+        subst at told (h.none_left, is)
 
 -- ---- either
 

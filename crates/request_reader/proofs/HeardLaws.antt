@@ -1,5 +1,5 @@
 -- What a reader has heard, as bytes come and are handed out.
-use Rattle.std.proofs.Common.{◌≡◌, ℕ, zero, suc, ◌+◌, ◌-◌, List, [], ◌++◌, length, take, drop, min, Option, Some, None, option_map, refl, sym, ap, ◌∙◌, arith, subst, append-nil, append_assoc, inl, inr}
+use Rattle.std.proofs.Common.{◌≡◌, ℕ, zero, suc, ◌+◌, ◌-◌, List, [], ◌++◌, length, take, drop, min, Option, Some, None, option_map, refl, sym, ap, ◌∙◌, arith, subst, append-nil, append_assoc, length-append, inl, inr}
 use Rattle.std.specs.Prelude.{◌⊎◌}
 use Rattle.std.proofs.lemmas.List.{take-append-le, drop-append-le, take-append-drop, length-take, length-take-le, length-drop, nil_from_length}
 use Rattle.host_base.specs.declared.limits.Limits.{Limits}
@@ -8,7 +8,7 @@ use Rattle.host_base.specs.declared.request.Framing.TheVariants.{Empty, Length, 
 use Rattle.head_reader.proofs.ReadLaws.{wholes_are_heads}
 use Rattle.request_reader.specs.declared.fault.Fault.{Fault}
 use Rattle.request_reader.specs.declared.opened.Opened.{Opened}
-use Rattle.request_reader.specs.Reader.{IsCounted, IsInBody, IsOpened, IsUnfaulty, IsHeardBy}
+use Rattle.request_reader.specs.Reader.{IsCounted, IsInBody, IsOpened, IsLeft, IsUnfaulty, IsHeardBy}
 use Rattle.request_reader.specs.Opening.{emptied, kept_of, wanted_by, with_bytes}
 use Rattle.request_reader.proofs.Bodies.{counted_on}
 use Rattle.request_reader.proofs.ReadingLaws.{whole_stays}
@@ -38,10 +38,24 @@ emptied_body Chunked limit o read taken h = record {
   none_taken = omega (arith, h.none_taken, ap length h.plain);
 }
 
+left_handed_out : (opened opened' : Option Opened) (rest bytes : List ℕ) → opened' ≡ option_map emptied opened → IsLeft opened rest bytes
+    → IsLeft opened' rest bytes
+left_handed_out None opened' rest bytes opened_is h = subst (λ (p : Option Opened). IsLeft p rest bytes) (sym opened_is) h
+left_handed_out (Some o) opened' rest bytes opened_is h =
+    subst (λ (p : Option Opened). IsLeft p rest bytes) (sym opened_is) (record {
+      read = h.read;
+      behind = h.behind;
+      inside = h.inside;
+      body_is = h.body_is;
+      rest_is = h.rest_is;
+      none_left = h.none_left;
+    })
+
 pub handed_out : (limits : Limits) (fault : Option Fault) (opened opened' : Option Opened) (rest bytes body : List ℕ) (taken : ℕ)
     → body ≡ kept_of opened → opened' ≡ option_map emptied opened → IsHeardBy limits fault opened rest bytes taken
     → IsHeardBy limits fault opened' rest bytes (taken + length body)
-handed_out limits (Some f) opened opened' rest bytes body taken body_is opened_is h = h
+handed_out limits (Some f) opened opened' rest bytes body taken body_is opened_is h =
+    record { is = h.is; lasts = h.lasts; left = left_handed_out opened opened' rest bytes opened_is h.left }
 handed_out limits None None opened' rest bytes body taken body_is opened_is h =
     subst (λ (p : Option Opened). IsUnfaulty limits p rest bytes (taken + length body)) (sym opened_is)
     (h.0, omega (arith, h.1, ap length body_is))
@@ -115,11 +129,35 @@ fed_opened limits o rest rest' bytes piece taken count is rest_is h =
     either zero none = inl (omega arith)
     either (suc n) some = inr (h.waits (omega arith))
 
+-- behind a fault nothing of the piece is read
+fed_left : (opened opened' : Option Opened) (rest rest' bytes piece : List ℕ) (count : ℕ)
+    → count ≡ wanted_by opened (length piece) → opened' ≡ option_map (λ o. with_bytes o (take count piece)) opened → rest' ≡ rest ++ drop count piece
+    → IsLeft opened rest bytes → IsLeft opened' rest' (bytes ++ piece)
+fed_left None opened' rest rest' bytes piece count count_is opened_is rest_is h =
+    subst (λ (p : Option Opened). IsLeft p rest' (bytes ++ piece)) (sym opened_is)
+    (rest_is ∙ ap (λ (l : List ℕ). l ++ drop count piece) h ∙ ap (λ (k : ℕ). bytes ++ drop k piece) count_is)
+fed_left (Some o) opened' rest rest' bytes piece count count_is opened_is rest_is h =
+    let none : count ≡ 0 = omega (arith, count_is, h.none_left) in
+    subst (λ (p : Option Opened). IsLeft p rest' (bytes ++ piece)) (sym opened_is) (record {
+      read = h.read;
+      behind = h.behind ++ piece;
+      inside = omega (arith, h.inside, length-append bytes piece);
+      body_is = drop-append-le o.used bytes piece h.inside ∙ ap (λ (l : List ℕ). l ++ piece) h.body_is ∙ append_assoc h.read h.behind piece;
+      rest_is = rest_is ∙ ap (λ (k : ℕ). rest ++ drop k piece) none ∙ ap (λ (l : List ℕ). l ++ piece) h.rest_is
+          ∙ append_assoc (take o.used bytes) h.behind piece
+          ∙ ap (λ (l : List ℕ). l ++ (h.behind ++ piece)) (sym (take-append-le o.used bytes piece h.inside));
+      none_left = omega (arith, h.none_left);
+    })
+
 pub heard_fed : (limits : Limits) (fault : Option Fault) (opened opened' : Option Opened) (rest rest' bytes piece : List ℕ) (taken count : ℕ)
     → count ≡ wanted_by opened (length piece) → opened' ≡ option_map (λ o. with_bytes o (take count piece)) opened → rest' ≡ rest ++ drop count piece
     → IsHeardBy limits fault opened rest bytes taken → IsHeardBy limits fault opened' rest' (bytes ++ piece) taken
 heard_fed limits (Some f) opened opened' rest rest' bytes piece taken count count_is opened_is rest_is h =
-    record { is = bad_stays limits bytes piece f.cause f.bare h.lasts h.is; lasts = h.lasts }
+    record {
+      is = bad_stays limits bytes piece f.cause f.bare h.lasts h.is;
+      lasts = h.lasts;
+      left = fed_left opened opened' rest rest' bytes piece count count_is opened_is rest_is h.left;
+    }
 heard_fed limits None None opened' rest rest' bytes piece taken count count_is opened_is rest_is h =
     subst (λ (p : Option Opened). IsUnfaulty limits p rest' (bytes ++ piece) taken) (sym opened_is)
     (rest_is ∙ ap (λ (l : List ℕ). l ++ drop count piece) h.0 ∙ ap (λ (k : ℕ). bytes ++ drop k piece) count_is, h.1)

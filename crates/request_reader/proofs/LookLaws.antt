@@ -24,7 +24,7 @@ use Rattle.request_reader.specs.Reader.{Reader, IsInBody, IsOpened, IsFaulty, Is
 use Rattle.request_reader.specs.Advance.{AdvancesTo, IsSameHead}
 use Rattle.request_reader.specs.Starts.{IsOpeningOf}
 use Rattle.request_reader.specs.declared.look.Look.{Look}
-use Rattle.request_reader.specs.Looks.{LookSays, SeesMore, SeesWhole, SeesFault, body_fault, early_opened, look_of, settled}
+use Rattle.request_reader.specs.Looks.{LookSays, FaultsKeep, SeesMore, SeesWhole, SeesFault, body_fault, early_opened, look_of, settled}
 use Rattle.head_reader.proofs.ReadLaws.{two_for_whole, wholes_are_heads}
 use Rattle.request_reader.proofs.ReadingLaws.{reading_asked}
 
@@ -71,6 +71,11 @@ kept_says Chunked o decoded taken counted kept = absurd (cc)
 kept_says (Length n) o decoded taken counted kept = ap (with_body o.request) kept
 
 -- ---- settled
+
+pub faults_keep : (r : Reader) (o : Opened) (step : ChunkStep) → FaultsKeep (look_of o step) r (settled r o step)
+faults_keep r o Told.More = tt
+faults_keep r o (Told.End count) = tt
+faults_keep r o (Told.Bad cause) = refl
 
 -- a reader of an opened request, before and behind a look
 pub record Settling (limits : Limits) (bytes : List ℕ) (taken : ℕ) (r : Reader) (o : Opened) (step : ChunkStep) (read behind : List ℕ) : Type 0 where
@@ -156,13 +161,23 @@ settled_bad : (limits : Limits) (bytes : List ℕ) (taken : ℕ) (cause : Cause)
 settled_bad limits bytes taken cause r o read behind h =
     let method : o.request.method ≡ h.head.method = method_asked limits h.head _ h.asks in
     let reads : read_request limits bytes ≡ Bad cause (bytes_eq o.request.method (codes "HEAD")) =
-    reading_asked limits bytes h.head o.used _ (refused cause) h.whole h.asks (ap (read_body limits.body o.request.framing) h.body_is ∙ h.advances)
+    reading_asked limits bytes h.head o.used _ (refused cause) h.whole h.asks (ap (read_body limits.body o.request.framing) h.body_is ∙ h.advances.1)
     ∙ ap (λ (m : List ℕ). Bad cause (bytes_eq m (codes "HEAD"))) (sym method) in
     record {
       reads = reads;
       limits_are = h.limits_are;
-      heard = subst (λ (l : Limits). IsFaulty l (body_fault o cause) bytes) (sym h.limits_are)
-          (record { is = reads; lasts = two_for_whole limits bytes h.head o.used h.whole });
+      heard = subst (λ (l : Limits). IsFaulty l (body_fault o cause) (Some o) r.rest bytes) (sym h.limits_are) (record {
+        is = reads;
+        lasts = two_for_whole limits bytes h.head o.used h.whole;
+        left = record {
+          read = read;
+          behind = behind;
+          inside = h.inside;
+          body_is = h.body_is;
+          rest_is = h.rest_is;
+          none_left = h.advances.0;
+        };
+      });
     }
 
 pub settles : (limits : Limits) (bytes : List ℕ) (taken : ℕ) (r : Reader) (o : Opened) (step : ChunkStep) (read behind : List ℕ)

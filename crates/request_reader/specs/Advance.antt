@@ -26,4 +26,4 @@ AdvancesTo limit framing read bytes taken Told.More o =
     IsAdvanced limit framing read bytes taken (length bytes) (λ decoded. unended decoded) o
 AdvancesTo limit framing read bytes taken (Told.End used) o =
     (used ≤ length bytes) × (o.left ≡ 0) × IsAdvanced limit framing read bytes taken used (λ decoded. ended decoded (length read + used)) o
-AdvancesTo limit framing read bytes taken (Told.Bad cause) o = read_body limit framing (read ++ bytes) ≡ refused cause
+AdvancesTo limit framing read bytes taken (Told.Bad cause) o = (o.left ≡ 0) × (read_body limit framing (read ++ bytes) ≡ refused cause)

@@ -32,6 +32,12 @@ look_of o Told.More = Seen.More o.due
 look_of o (Told.End count) = Seen.Whole
 look_of o (Told.Bad cause) = Seen.Fault (body_fault o cause)
 
+-- a look that finds a fault leaves what is left
+abbrev pub FaultsKeep : Look → Reader → Reader → Type 0
+FaultsKeep (Seen.More due) old new = Unit {0}
+FaultsKeep Seen.Whole old new = Unit {0}
+FaultsKeep (Seen.Fault f) old new = new.rest ≡ old.rest
+
 -- so many bytes behind the head were read
 abbrev pub read_count : ChunkStep → ℕ
 read_count Told.More = 0

@@ -10,6 +10,8 @@ use Rattle.head_reader.specs.declared.step.HeadStep.TheVariants as Step
 use Rattle.body_framing.specs.Chunked.{at_start, read_len, standing_after}
 use Rattle.request_reader.specs.declared.fault.Fault.{Fault}
 use Rattle.request_reader.specs.declared.opened.Opened.{Opened}
+use Rattle.request_reader.specs.declared.step.ReqStep.{ReqStep}
+use Rattle.request_reader.specs.declared.step.ReqStep.TheVariants as Answer
 use Rattle.request_reader.specs.Request.{Reading, Whole, More, Bad, asked_by, is_length, read_request, with_body}
 
 -- the limits, the request whose head was read, the fault that was found, and the bytes that were not read
@@ -63,10 +65,25 @@ pub record IsOpened (limits : Limits) (o : Opened) (rest bytes : List ℕ) (take
   pub body : IsInBody o.request.framing limits.body o read taken
   pub waits : 0 < o.left → behind ≡ []
 
+-- the head and what stands behind the bytes that were read of a body in which a fault was found
+pub record IsLeftOf (o : Opened) (rest bytes : List ℕ) : Type 0 where
+  pub read : List ℕ
+  pub behind : List ℕ
+  pub inside : o.used ≤ length bytes
+  pub body_is : drop o.used bytes ≡ read ++ behind
+  pub rest_is : rest ≡ take o.used bytes ++ behind
+  pub none_left : o.left ≡ 0
+
+-- what is left where a fault was found: all bytes, if it was found in the head
+abbrev pub IsLeft : Option Opened → List ℕ → List ℕ → Type 0
+IsLeft None rest bytes = rest ≡ bytes
+IsLeft (Some o) rest bytes = IsLeftOf o rest bytes
+
 -- a fault was found that stays whatever follows
-pub record IsFaulty (limits : Limits) (f : Fault) (bytes : List ℕ) : Type 0 where
+pub record IsFaulty (limits : Limits) (f : Fault) (opened : Option Opened) (rest bytes : List ℕ) : Type 0 where
   pub is : read_request limits bytes ≡ Bad f.cause f.bare
   pub lasts : 2 ≤ limits.head
+  pub left : IsLeft opened rest bytes
 
 abbrev pub IsUnfaulty : Limits → Option Opened → List ℕ → List ℕ → ℕ → Type 0
 IsUnfaulty limits None rest bytes taken = (rest ≡ bytes) × (taken ≡ 0)
@@ -74,7 +91,7 @@ IsUnfaulty limits (Some o) rest bytes taken = IsOpened limits o rest bytes taken
 
 abbrev pub IsHeardBy : Limits → Option Fault → Option Opened → List ℕ → List ℕ → ℕ → Type 0
 IsHeardBy limits None opened rest bytes taken = IsUnfaulty limits opened rest bytes taken
-IsHeardBy limits (Some f) opened rest bytes taken = IsFaulty limits f bytes
+IsHeardBy limits (Some f) opened rest bytes taken = IsFaulty limits f opened rest bytes
 
 -- These bytes were fed since the last whole request and its rest, and so many bytes of the body were
 -- handed out.
@@ -94,6 +111,12 @@ abbrev pub IsBehind : Limits → List ℕ → ℕ → Reading → Reader → Typ
 IsBehind limits bytes taken (Whole request used due) r = r ≡ unread limits (drop used bytes)
 IsBehind limits bytes taken (More request due) r = (r.limits ≡ limits) × IsHeard r bytes taken
 IsBehind limits bytes taken (Bad cause bare) r = (r.limits ≡ limits) × IsHeard r bytes taken
+
+-- where a fault is answered nothing is taken off, and what is left stays
+abbrev pub BadKeeps : ReqStep → Reader → Reader → Type 0
+BadKeeps (Answer.Whole request) old new = Unit {0}
+BadKeeps (Answer.More due) old new = Unit {0}
+BadKeeps (Answer.Bad cause bare) old new = new.rest ≡ old.rest
 
 -- the bytes of an opened request's head are there
 abbrev pub HasHead : Option Opened → List ℕ → Type 0

@@ -1,8 +1,8 @@
 // A reader of the requests of one connection.
 ghost use Rattle.std.specs.Prelude.{◌≡◌, ◌≤◌, ◌+◌, ◌++◌, ℕ, Bool, true, List, [], Some, None, length, take, drop, vec_len, min, IfSome, IfOk, OnOk, OnErr, IsTrue, is_some, option_map};
-ghost use Rattle.request_reader.specs.Looks.{LookSays, early_opened, look_of, settled};
+ghost use Rattle.request_reader.specs.Looks.{FaultsKeep, LookSays, early_opened, look_of, settled};
 ghost use Rattle.request_reader.specs.Opening.{emptied, kept_of, wanted_by, with_bytes};
-ghost use Rattle.request_reader.specs.Reader.{IsBehind, IsHeard, IsOpened, data_kept, unread};
+ghost use Rattle.request_reader.specs.Reader.{BadKeeps, Reader, IsBehind, IsHeard, IsOpened, data_kept, unread};
 ghost use Rattle.request_reader.specs.declared.step.ReqStep.TheVariants as Answer;
 ghost use Rattle.request_reader.specs.declared.opened.Opened.{Opened};
 ghost use Rattle.request_reader.specs.Request.{More, early_of, is_begun, is_length, is_whole_head, read_request, step_of, with_body};
@@ -144,6 +144,7 @@ impl ReqReader {
         requires { opened.used ≤ length self.old.rest }
         ensures look { result ≡ look_of opened step }
         ensures state { self.new ≡ settled self.old opened step }
+        ensures rest { FaultsKeep result self.old self.new }
     {
         self.search = Search::new();
         match step {
@@ -173,6 +174,7 @@ impl ReqReader {
         requires { self.old.opened ≡ None }
         ensures heard { self.old.fault ≡ None
             → IfOk result (λ look. LookSays self.old.limits self.old.rest 0 look self.new) }
+        ensures rest { IfOk result (λ look. FaultsKeep look self.old self.new) }
         ensures err { OnErr result (self.new ≡ self.old) }
         ensures memory { OnErr result (IsTrue (is_whole_head self.old.limits self.old.rest)) }
     {
@@ -195,6 +197,7 @@ impl ReqReader {
         requires { opened.used ≤ length self.old.rest }
         ensures heard { (bytes : List ℕ) (taken : ℕ) → IsOpened self.old.limits opened self.old.rest bytes taken → self.old.fault ≡ None
             → IfOk result (λ look. LookSays self.old.limits bytes taken look self.new) }
+        ensures rest { IfOk result (λ look. FaultsKeep look self.old self.new) }
         ensures err { OnErr result (self.new ≡ record self.old { opened = Some opened }) }
     {
         let mut opened = opened;
@@ -212,6 +215,7 @@ impl ReqReader {
     fn look(&mut self) -> Result<Look, NoMemory>
         ensures heard { (bytes : List ℕ) (taken : ℕ) → IsHeard self.old bytes taken → self.old.fault ≡ None
             → IfOk result (λ look. LookSays self.old.limits bytes taken look self.new) }
+        ensures rest { IfOk result (λ look. FaultsKeep look self.old self.new) }
         ensures err { OnErr result (self.new ≡ self.old) }
         ensures memory { (bytes : List ℕ) (taken : ℕ) → IsHeard self.old bytes taken → self.old.fault ≡ None
             → OnErr result (IsTrue (is_whole_head self.old.limits bytes)) }
@@ -224,7 +228,9 @@ impl ReqReader {
 
     // Takes off the request that is opened, with its head; its body was dropped before.
     fn take_off(&mut self) -> ReqStep
-        ensures { (o : Opened) → self.old.opened ≡ Some o
+        // It is no fault.
+        ensures sound { (before : Reader) → BadKeeps result before self.new }
+        ensures request { (o : Opened) → self.old.opened ≡ Some o
             → (result ≡ Answer.Whole (with_body o.request (data_kept o.request.framing o)))
             × (self.new ≡ record self.old { opened = None; rest = drop o.used self.old.rest }) }
     {
@@ -252,6 +258,7 @@ impl ReqReader {
             → IfOk result (λ step. step ≡ step_of taken (read_request self.old.limits bytes)) }
         ensures behind { (bytes : List ℕ) (taken : ℕ) → IsHeard self.old bytes taken
             → OnOk result (IsBehind self.old.limits bytes taken (read_request self.old.limits bytes) self.new) }
+        ensures rest { IfOk result (λ step. BadKeeps step self.old self.new) }
         // Of a body of known length, `take_body` hands out what it has of it.
         ensures next { (bytes : List ℕ) (taken : ℕ) (request : Request) (due : Bool) → IsHeard self.old bytes taken
             → read_request self.old.limits bytes ≡ More (Some request) due → is_length request.framing ≡ true
