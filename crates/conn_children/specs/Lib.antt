@@ -1,0 +1,7 @@
+pub mod Setting
+pub mod Legs
+pub mod Children
+pub mod Heard
+pub mod Laws
+pub mod Step
+pub mod StepLaws
