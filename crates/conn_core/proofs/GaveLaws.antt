@@ -1,9 +1,10 @@
 -- Acts of one connection, given one after another.
-use Rattle.std.proofs.Common.{◌≡◌, ℕ, ◌+◌, Bool, true, false, ◌&&◌, ◌||◌, ◌==◌, List, [], ◌∷◌, ◌++◌, map, Option, Some, None, refl, sym, ap, ◌∙◌, subst, append-nil, if◌then◌else◌, arith, length}
+use Rattle.std.proofs.Common.{◌≡◌, ℕ, ◌+◌, Bool, true, false, ◌&&◌, ◌||◌, ◌==◌, not, ◌≤◌, ◌<◌, ◌^◌, ◌-◌, List, [], ◌∷◌, ◌++◌, map, Option, Some, None, refl, sym, ap, ◌∙◌, subst, append-nil, if◌then◌else◌, arith, length}
 use Rattle.std.specs.List.{list_any}
 use Rattle.std.proofs.lemmas.Bool.{and_from, eq-eqb}
 use Rattle.host_base.specs.declared.launch.Launch.{Launch}
 use Rattle.host_base.specs.declared.launch.Peer.{Peer}
+use Rattle.host_base.specs.declared.site.Site.{Site}
 use Rattle.host_trace.specs.declared.items.Act.{Act}
 use Rattle.host_trace.specs.declared.items.Event.{Event}
 use Rattle.host_trace.specs.declared.items.Act.TheVariants.{WantClient, Write, Shut, Start, Feed, EndInput, WantChild, Kill, Release, Upgrade, Says, CloseWs}
@@ -20,7 +21,24 @@ use Rattle.trace_child.specs.Words.{is_filled}
 use Rattle.conn_marks.specs.View.{View as Marks, noted, may_write, less_by, more_by}
 use Rattle.conn_marks.specs.Form.{is_allowed, given_all, are_given}
 use Rattle.conn_marks.proofs.KnowsLaws.{given_all-append, are_given-append, given_all-number}
-use Rattle.conn_core.specs.Kept.{AreOwn, Gave, Heard, HasChildIn, Kept, KeptFor, Stepped, Within, marks_of, number_of, peer_after, peer_of, site_of}
+use Rattle.trace_model.specs.Exchange.{Exchange, continue_text, pushed, request_bytes}
+use Rattle.exchange_request.specs.declared.incoming.Incoming.{Incoming}
+use Rattle.exchange_request.specs.Knows.{Knows, is_ready, is_taken, limits_of}
+use Rattle.exchange_stage.specs.declared.stage.Stage.{Stage}
+use Rattle.conn_front.specs.Front.{Front, IsHeard}
+use Rattle.conn_front.specs.Hearing.{Hears}
+use Rattle.conn_front.specs.Laws.{peer_after}
+use Rattle.conn_front.specs.Moves.{Move, Ending, gives, continues, settles, acts_of, moved, AreInStep, AllBelong, Belongs}
+use Rattle.conn_front.proofs.FrontLaws.{acts_keep, continues_known, counted_all, events_known, hears_as, known_request, known_same, known_stood, next_known}
+use Rattle.conn_front.proofs.MoveLaws.{acts_of-append, belong_together, in_step_parts, moved-append}
+use Rattle.conn_core.specs.Kept.{AreOwn, Gave, Heard, HeardOwn, HasChildIn, Kept, Leads, Led, StandsFor, Stepped, Turned, Within, front_of, is_reading, is_settled_as, marks_of, number_of, peer_of, site_of}
+use Rattle.child_core.specs.declared.ending.Ending.TheVariants.{Dropped}
+use Rattle.host_trace.specs.Account.{has_unsettled}
+use Rattle.host_trace.specs.Kinds.{is_tick, is_upgrade}
+use Rattle.conn_core.specs.Moves.{ended_run, losing}
+use Rattle.conn_core.specs.Settles.{Follows, Settles, is_over, stood}
+use Rattle.conn_core.specs.Slot.{run_settled}
+use Rattle.conn_core.specs.Writes.{acts_continued, acts_written, continued, wrote}
 
 pub adds_nothing : (b : Option (List Item)) → Adds b [] b
 adds_nothing b now told = record { was = now; told = told; grew = sym (append-nil now) }
@@ -31,23 +49,83 @@ kids_after-append ks c (x ∷ xs) ys = kids_after-append (with_child ks c (Out x
 
 -- ---- nothing, and one after the other
 
-pub kept_number : {p : Option Peer} {old new : Conn} → KeptFor p old new → number_of new ≡ number_of old
+pub kept_number : {old new : Conn} → Kept old new → number_of new ≡ number_of old
 kept_number k = ap (λ (m : Marks). m.c) k.marks
 
 pub gave_number : {old new : Conn} {n m : ℕ} {b d : Option (List Item)} → Gave old n b new m d → number_of new ≡ number_of old
 gave_number {old} g = ap (λ (m : Marks). m.c) g.marks ∙ given_all-number (marks_of old) g.acts
 
-pub gave_none : {old new : Conn} {n : ℕ} {b : Option (List Item)} → Kept old new → Gave old n b new n b
-gave_none {old} {new} {n} {b} k = record {
-  acts = [];
-  told = adds_nothing b;
-  next = refl;
+-- ---- what the connection stands for
+
+pub leads_none : (site : Site) (c : ℕ) (old new : Conn) → ((e : Exchange) → StandsFor old e → StandsFor new e) → Leads site c old new []
+leads_none site c old new keeps e k a = (keeps e k, tt)
+
+-- .. by the same connection
+leads_as : (site site' : Site) (c c' : ℕ) (old new : Conn) (moves : List Move) → site' ≡ site → c' ≡ c → Leads site' c' old new moves → Leads site c old new moves
+leads_as site site' c c' old new moves s n l =
+    subst (λ (d : ℕ). Leads site d old new moves) n (subst (λ (t : Site). Leads t c' old new moves) s l)
+
+-- .. one after the other
+led_then : (site : Site) (c : ℕ) (mid new : Conn) (e : Exchange) (xs ys : List Move) → Led site c mid e xs → Leads site c mid new ys → Led site c new e (xs ++ ys)
+led_then site c mid new e xs ys one two a =
+    let parts = in_step_parts site c e xs ys a in
+    let first = one parts.0 in
+    let later = two (moved site c e xs) first.0 parts.1 in
+    (subst (λ (d : Exchange). StandsFor new d) (sym (moved-append site c e xs ys)) later.0, belong_together site c e xs ys first.1 later.1)
+
+leads_then : (site site' : Site) (c c' : ℕ) (old mid new : Conn) (xs ys : List Move) → site' ≡ site → c' ≡ c → Leads site c old mid xs → Leads site' c' mid new ys
+    → Leads site c old new (xs ++ ys)
+leads_then site site' c c' old mid new xs ys s n one two e k =
+    led_then site c mid new e xs ys (one e k) (leads_as site site' c c' mid new ys s n two)
+
+pub kept_known : {old new : Conn} → Kept old new → (e : Exchange) → StandsFor old e → StandsFor new e
+kept_known k e = known_same k.site (kept_number k) k.peer_is k.lost k.reading k.front
+
+pub kept_turned : {old new : Conn} → Kept old new → Turned old new
+kept_turned {old} {new} k = record {
   site = k.site;
-  peer_is = k.peer_is;
-  form = refl;
   marks = k.marks;
-  own = λ ks w. record { are = refl; child = k.child ks w };
+  peer_is = k.peer_is;
+  child = k.child;
+  moves = [];
+  none = refl;
+  keeps = leads_none (site_of old) (number_of old) old new (kept_known k);
 }
+
+pub turned_number : {old new : Conn} → Turned old new → number_of new ≡ number_of old
+turned_number t = ap (λ (m : Marks). m.c) t.marks
+
+pub turned_then : {old mid new : Conn} → Turned old mid → Turned mid new → Turned old new
+turned_then {old} {mid} {new} one two = record {
+  site = two.site ∙ one.site;
+  marks = two.marks ∙ one.marks;
+  peer_is = two.peer_is ∙ one.peer_is;
+  child = λ ks w. two.child ks (one.child ks w);
+  moves = one.moves ++ two.moves;
+  none = acts_of-append one.moves two.moves ∙ (ap (λ (l : List Act). l ++ acts_of two.moves) one.none ∙ two.none);
+  keeps = leads_then (site_of old) (site_of mid) (number_of old) (number_of mid) old mid new one.moves two.moves one.site (turned_number one) one.keeps two.keeps;
+}
+
+pub gave_still : {old new : Conn} {n : ℕ} {b d : Option (List Item)} → Turned old new → Adds b [] d → Gave old n b new n d
+gave_still {old} {new} {n} {b} {d} t told = record {
+  acts = [];
+  told = told;
+  next = refl;
+  site = t.site;
+  peer_is = t.peer_is;
+  form = refl;
+  marks = t.marks;
+  own = λ ks w. record { are = refl; child = t.child ks w };
+  moves = t.moves;
+  same = t.none;
+  keeps = t.keeps;
+}
+
+pub gave_turned : {old new : Conn} {n : ℕ} {b : Option (List Item)} → Turned old new → Gave old n b new n b
+gave_turned {old} {new} {n} {b} t = gave_still t (adds_nothing b)
+
+pub gave_none : {old new : Conn} {n : ℕ} {b : Option (List Item)} → Kept old new → Gave old n b new n b
+gave_none k = gave_turned (kept_turned k)
 
 own_next : (c c' n n' : ℕ) (ks : List ℕ) (xs ys : List Act) (mid new : Conn) → c' ≡ c → n' ≡ next_after n xs → AreOwn c n ks xs mid
     → AreOwn c' n' (kids_after ks c xs) ys new → AreOwn c n ks (xs ++ ys) new
@@ -80,6 +158,10 @@ gave_then {old} {mid} {new} {n} {m} {l} {a} {b} {d} one two =
           let first : AreOwn (number_of old) n ks one.acts mid = one.own ks w in
           own_next (number_of old) (number_of mid) n m ks one.acts two.acts mid new (gave_number one) one.next first
           (two.own (kids_after ks (number_of old) one.acts) first.child);
+      moves = one.moves ++ two.moves;
+      same = acts_of-append one.moves two.moves
+          ∙ (ap (λ (l : List Act). l ++ acts_of two.moves) one.same ∙ ap (λ (l : List Act). one.acts ++ l) two.same);
+      keeps = leads_then (site_of old) (site_of mid) (number_of old) (number_of mid) old mid new one.moves two.moves one.site (gave_number one) one.keeps two.keeps;
     }
 
 -- ---- acts of the connection
@@ -90,6 +172,9 @@ pub record KeptAfter (act : Act) (old new : Conn) : Type 0 where
   pub marks : marks_of new ≡ noted (marks_of old) (Out act)
   pub peer_is : peer_of new ≡ peer_of old
   pub child : (ks : List ℕ) → HasChildIn old ks → HasChildIn new ks
+  pub front : front_of new ≡ front_of old
+  pub lost : old.lost ≡ true → new.lost ≡ true
+  pub reading : is_reading old.stage ≡ false → is_reading new.stage ≡ false
 
 pub kept_then : {act : Act} {old mid new : Conn} → KeptAfter act old mid → Kept mid new → KeptAfter act old new
 kept_then one two = record {
@@ -97,6 +182,9 @@ kept_then one two = record {
   marks = two.marks ∙ one.marks;
   peer_is = two.peer_is ∙ one.peer_is;
   child = λ ks w. two.child ks (one.child ks w);
+  front = two.front ∙ one.front;
+  lost = λ l. two.lost (one.lost l);
+  reading = λ r. two.reading (one.reading r);
 }
 
 same_number : (c : ℕ) → (c == c) ≡ true
@@ -149,9 +237,32 @@ plain_next c n (Upgrade d rest) is = absurd is
 plain_next c n (Says d texts) is = absurd is
 plain_next c n (CloseWs d code) is = absurd is
 
+plain_upgrades : (c : ℕ) (act : Act) → IsPlain c act → (d : ℕ) → is_upgrade d (Out act) ≡ false
+plain_upgrades c (WantClient d) is b = refl
+plain_upgrades c (Write d bytes) is b = refl
+plain_upgrades c (Shut d why) is b = refl
+plain_upgrades c (Start k d j hop launch) is b = absurd is
+plain_upgrades c (Feed k bytes) is b = absurd is
+plain_upgrades c (EndInput k) is b = absurd is
+plain_upgrades c (WantChild k) is b = absurd is
+plain_upgrades c (Kill k) is b = absurd is
+plain_upgrades c (Release k) is b = absurd is
+plain_upgrades c (Upgrade d rest) is b = absurd is
+plain_upgrades c (Says d texts) is b = absurd is
+plain_upgrades c (CloseWs d code) is b = absurd is
+
+after_number : {act : Act} {old new : Conn} → KeptAfter act old new → number_of new ≡ number_of old
+after_number k = ap (λ (m : Marks). m.c) k.marks
+
+after_known : (act : Act) (old new : Conn) (e : Exchange) → KeptAfter act old new → is_upgrade (number_of old) (Out act) ≡ false → StandsFor old e
+    → StandsFor new (pushed e (Out act))
+after_known act old new e k none known =
+    known_same k.site (after_number k) k.peer_is k.lost k.reading k.front
+    (acts_keep (site_of old) (number_of old) (peer_of old) old.lost (is_reading old.stage) (front_of old) e act none known)
+
 pub gave_plain : {old new : Conn} {n : ℕ} {b d : Option (List Item)} (act : Act) → IsPlain (number_of old) act → is_allowed (marks_of old) act ≡ true
-    → Adds b (act ∷ []) d → KeptAfter act old new → Gave old n b new n d
-gave_plain {old} {new} {n} {b} {d} act is may told k = record {
+    → Adds b (act ∷ []) d → KeptAfter act old new → ((e : Exchange) → StandsFor old e → Belongs e act) → Gave old n b new n d
+gave_plain {old} {new} {n} {b} {d} act is may told k belongs = record {
   acts = act ∷ [];
   told = told;
   next = plain_next (number_of old) n act is;
@@ -160,6 +271,9 @@ gave_plain {old} {new} {n} {b} {d} act is may told k = record {
   form = and_from _ _ may refl;
   marks = k.marks;
   own = λ ks w. plain_own (number_of old) n ks act new is (k.child ks w);
+  moves = gives act ∷ [];
+  same = refl;
+  keeps = λ e known a. (after_known act old new e k (plain_upgrades (number_of old) act is (number_of old)) known, (belongs e known, tt));
 }
 
 -- ---- marks of which an item says nothing
@@ -185,10 +299,16 @@ start_has (j ∷ ks) k = or_right (j == k) (has (ks ++ k ∷ []) k) (start_has k
     or_right true b e = refl
     or_right false b e = e
 
+-- what is known of its exchange beside its script stays
+pub record FrontKept (old new : Conn) : Type 0 where
+  pub front : front_of new ≡ front_of old
+  pub lost : old.lost ≡ true → new.lost ≡ true
+  pub reading : is_reading old.stage ≡ false → is_reading new.stage ≡ false
+
 pub gave_start : {old new : Conn} {b d : Option (List Item)} (n c j hop : ℕ) (launch : Launch) (v : View) → c ≡ number_of old → new.run ≡ Some v → v.number ≡ n
     → is_allowed (marks_of old) (Start n c j hop launch) ≡ true → Adds b (Start n c j hop launch ∷ []) d → site_of new ≡ site_of old → peer_of new ≡ peer_of old → marks_of new ≡ marks_of old
-    → Gave old n b new (n + 1) d
-gave_start {old} {new} {b} {d} n c j hop launch v c_is run k live told site peer marks = record {
+    → FrontKept old new → j ≡ old.number → j < 2 ^ 128 - 1 → old.closing ≡ false → Gave old n b new (n + 1) d
+gave_start {old} {new} {b} {d} n c j hop launch v c_is run k live told site peer marks front j_is less open_yet = record {
   acts = Start n c j hop launch ∷ [];
   told = told;
   next = refl;
@@ -205,6 +325,14 @@ gave_start {old} {new} {b} {d} n c j hop launch v c_is run k live told site peer
         child = subst (λ (r : Option View). Within r (with_child ks (number_of old) (Out (Start n c j hop launch)))) (sym run)
             (subst (λ (l : List ℕ). Within (Some v) l) (sym kids) has_it);
       };
+  moves = gives (Start n c j hop launch) ∷ [];
+  same = refl;
+  keeps = λ e known a.
+      let after : StandsFor new (pushed e (Out (Start n c j hop launch))) =
+      known_same site (ap (λ (m : Marks). m.c) marks) peer front.lost front.reading front.front
+      (acts_keep (site_of old) (number_of old) (peer_of old) old.lost (is_reading old.stage) (front_of old) e (Start n c j hop launch) refl known) in
+      let number : j ≡ e.number = counted_all j e.number (j_is ∙ known.number) less in
+      (after, ((number, sym known.closing ∙ open_yet), tt));
 }
 
 -- ---- acts of the child
@@ -318,13 +446,50 @@ childs_form m k (Upgrade d rest ∷ acts) a = absurd a.0
 childs_form m k (Says d texts ∷ acts) a = absurd a.0
 childs_form m k (CloseWs d code ∷ acts) a = absurd a.0
 
+-- they leave what is known of the exchange beside its script
+abbrev all_gives : List Act → List Move
+all_gives [] = []
+all_gives (act ∷ acts) = gives act ∷ all_gives acts
+
+all_given : (acts : List Act) → acts_of (all_gives acts) ≡ acts
+all_given [] = refl
+all_given (act ∷ acts) = ap (λ (l : List Act). act ∷ l) (all_given acts)
+
+record ChildsAct (c k : ℕ) (act : Act) : Type 0 where
+  pub upgrades : is_upgrade c (Out act) ≡ false
+  pub belongs : (e : Exchange) → Belongs e act
+
+childs_act : (c k : ℕ) (act : Act) → IsChilds k act → ChildsAct c k act
+childs_act c k (Feed d bytes) is = record { upgrades = refl; belongs = λ e. tt }
+childs_act c k (EndInput d) is = record { upgrades = refl; belongs = λ e. tt }
+childs_act c k (WantChild d) is = record { upgrades = refl; belongs = λ e. tt }
+childs_act c k (Kill d) is = record { upgrades = refl; belongs = λ e. tt }
+childs_act c k (Release d) is = record { upgrades = refl; belongs = λ e. tt }
+childs_act c k (WantClient d) is = absurd is
+childs_act c k (Write d bytes) is = absurd is
+childs_act c k (Shut d why) is = absurd is
+childs_act c k (Start j d e hop launch) is = absurd is
+childs_act c k (Upgrade d rest) is = absurd is
+childs_act c k (Says d texts) is = absurd is
+childs_act c k (CloseWs d code) is = absurd is
+
+childs_lead : (k : ℕ) (acts : List Act) → AreChilds k acts → (conn : Conn) → Leads (site_of conn) (number_of conn) conn conn (all_gives acts)
+childs_lead k [] are conn e known a = (known, tt)
+childs_lead k (act ∷ acts) are conn e known a =
+    let one = childs_act (number_of conn) k act are.0 in
+    let next : StandsFor conn (pushed e (Out act)) =
+    acts_keep (site_of conn) (number_of conn) (peer_of conn) conn.lost (is_reading conn.stage) (front_of conn) e act one.upgrades known in
+    let rest = childs_lead k acts are.1 conn (pushed e (Out act)) next a.1 in
+    (rest.0, (one.belongs e, rest.1))
+
 number_by : (found may : Bool) (v : View) → (acted_by found may v).number ≡ v.number
 number_by true may v = acted_number may v
 number_by false may v = refl
 
 pub gave_run : {old new : Conn} {n : ℕ} {b d : Option (List Item)} (found may : Bool) (v : View) → old.run ≡ Some v → new.run ≡ Some (acted_by found may v)
-    → Adds b (acting_by found may v) d → site_of new ≡ site_of old → peer_of new ≡ peer_of old → marks_of new ≡ marks_of old → Gave old n b new n d
-gave_run {old} {new} {n} {b} {d} found may v was is told site peer marks = record {
+    → Adds b (acting_by found may v) d → site_of new ≡ site_of old → peer_of new ≡ peer_of old → marks_of new ≡ marks_of old → FrontKept old new
+    → Gave old n b new n d
+gave_run {old} {new} {n} {b} {d} found may v was is told site peer marks front = record {
   acts = acting_by found may v;
   told = told;
   next = sym (childs_own (number_of old) n v.number (v.number ∷ []) (acting_by found may v) (or_left (v.number == v.number) false (same_number v.number)) (by_found found may v)).next;
@@ -341,10 +506,15 @@ gave_run {old} {new} {n} {b} {d} found may v was is told site peer marks = recor
             (subst (λ (l : List ℕ). Within (Some (acted_by found may v)) l) (sym r.kids)
             (ap (λ (e : ℕ). has ks e) (number_by found may v) ∙ h));
       };
+  moves = all_gives (acting_by found may v);
+  same = all_given (acting_by found may v);
+  keeps = λ e known a.
+      let r = childs_lead v.number (acting_by found may v) (by_found found may v) old e known a in
+      (known_same site (ap (λ (m : Marks). m.c) marks) peer front.lost front.reading front.front r.0, r.1);
 }
 
 pub kept_same : (conn : Conn) → Kept conn conn
-kept_same conn = record { site = refl; marks = refl; peer_is = refl; child = λ ks w. w }
+kept_same conn = record { site = refl; marks = refl; peer_is = refl; child = λ ks w. w; front = refl; lost = λ l. l; reading = λ r. r }
 
 pub gave_after : {old mid new : Conn} {n m : ℕ} {b d : Option (List Item)} → Kept old mid → Gave mid n b new m d → Gave old n b new m d
 gave_after k g = gave_then (gave_none k) g
@@ -352,34 +522,184 @@ gave_after k g = gave_then (gave_none k) g
 pub gave_before : {old mid new : Conn} {n m : ℕ} {b d : Option (List Item)} → Gave old n b mid m d → Kept mid new → Gave old n b new m d
 gave_before g k = gave_then g (gave_none k)
 
+pub losing_kept : (conn : Conn) → Kept conn (losing conn)
+losing_kept conn = record {
+  site = refl;
+  marks = refl;
+  peer_is = refl;
+  child = λ ks w. given_up ks conn.run w;
+  front = refl;
+  lost = λ l. refl;
+  reading = λ r. r;
+}
+  where
+    given_up : (ks : List ℕ) (run : Option View) → Within run ks → Within (ended_run Dropped run) ks
+    given_up ks None w = w
+    given_up ks (Some v) w = w
+
+-- a stage was taken out and put back
+pub put_back : {old mid new : Conn} {stage was : Stage} → mid ≡ record old { stage = was } → stage ≡ old.stage → new ≡ record mid { stage = stage } → Kept old new
+put_back {old} {mid} {new} {stage} {was} taken is put =
+    let same : record mid { stage = stage } ≡ old =
+    ap (λ (conn : Conn). record conn { stage = stage }) taken ∙ ap (λ (s : Stage). record old { stage = s }) is in
+    subst (λ (conn : Conn). Kept old conn) (sym (put ∙ same)) (kept_same old)
+
+-- ---- the end of an exchange
+
+over_turned : {old new : Conn} → Follows old new → Turned old new
+over_turned {old} {new} f =
+    let ending : Ending = record { closes = old.closes; idled = old.idled; lost = old.lost; taken = is_taken old.request } in
+    record {
+      site = f.site;
+      marks = f.marks;
+      peer_is = f.peer_is;
+      child = λ ks w. subst (λ (r : Option View). Within r ks) (sym f.run) tt;
+      moves = settles ending ∷ [];
+      none = refl;
+      keeps = λ e known a.
+          let next = next_known (site_of old) (number_of old) (peer_of old) old.lost (is_reading old.stage) (is_reading new.stage) (front_of old) (front_of new) e ending
+          a.0 refl refl refl refl f.front known in
+          (known_same f.site (ap (λ (m : Marks). m.c) f.marks) f.peer_is (λ l. f.lost ∙ l) (λ r. r) refl next, tt);
+    }
+
+pub settles_turned : {old new : Conn} → Settles old new → Turned old new
+settles_turned {old} {new} s = go (is_over old) refl
+  where
+    go : (b : Bool) → is_over old ≡ b → Turned old new
+    go true is = over_turned (s.over is)
+    go false is = subst (λ (conn : Conn). Turned old conn) (sym (s.on is)) (kept_turned (kept_same old))
+
+pub stood_turned : (closes : Bool) (conn : Conn) → Turned conn (stood closes conn)
+stood_turned closes conn = record {
+  site = refl;
+  marks = refl;
+  peer_is = refl;
+  child = λ ks w. w;
+  moves = [];
+  none = refl;
+  keeps = leads_none (site_of conn) (number_of conn) conn (stood closes conn)
+      (λ e known. known_stood (site_of conn) (number_of conn) (peer_of conn) conn.lost (is_reading conn.stage) (front_of conn) e closes known);
+}
+
 -- ---- a step
 
 pub stepped : {old mid new : Conn} {ev : Event} {n m : ℕ} {b d : Option (List Item)} → Heard old ev mid → Gave mid n b new m d → Stepped old ev n b new m d
-stepped {old} {mid} {new} {ev} {n} {m} {b} {d} h g = record {
-  acts = g.acts;
-  told = g.told;
-  next = g.next;
-  site = g.site ∙ h.site;
-  peer_is = g.peer_is ∙ h.peer_is;
-  form = subst (λ (v : Marks). are_given v g.acts ≡ true) h.marks g.form;
-  marks = g.marks ∙ ap (λ (v : Marks). given_all v g.acts) h.marks;
-  own = λ ks w.
-      subst (λ (c : ℕ). AreOwn c n ks g.acts new) (ap (λ (v : Marks). v.c) h.marks) (g.own ks (h.child ks w));
-}
+stepped {old} {mid} {new} {ev} {n} {m} {b} {d} h g =
+    let number : number_of mid ≡ number_of old = ap (λ (v : Marks). v.c) h.marks in
+    record {
+      acts = g.acts;
+      told = g.told;
+      next = g.next;
+      site = g.site ∙ h.site;
+      peer_is = g.peer_is ∙ h.peer_is;
+      form = subst (λ (v : Marks). are_given v g.acts ≡ true) h.marks g.form;
+      marks = g.marks ∙ ap (λ (v : Marks). given_all v g.acts) h.marks;
+      own = λ ks w. subst (λ (c : ℕ). AreOwn c n ks g.acts new) number (g.own ks (h.child ks w));
+      moves = h.moves ++ g.moves;
+      same = acts_of-append h.moves g.moves ∙ (ap (λ (l : List Act). l ++ acts_of g.moves) h.none ∙ g.same);
+      keeps = λ e two settled known.
+          led_then (site_of old) (number_of old) mid new (pushed e (In ev)) h.moves g.moves (h.keeps e two settled known)
+          (leads_as (site_of old) (site_of mid) (number_of old) (number_of mid) mid new g.moves h.site number g.keeps);
+    }
 
 -- an event, by the parts that take it into account
-pub heard_by : {old marked mid later new : Conn} {ev : Event} → site_of marked ≡ site_of old → marks_of marked ≡ noted (marks_of old) (In ev) → peer_of marked ≡ peer_of old
-    → ((ks : List ℕ) → HasChildIn old ks → HasChildIn marked ks) → Kept marked mid → KeptFor (peer_after (peer_of mid) ev) mid later → Kept later new → Heard old ev new
-heard_by {old} {marked} {mid} {later} {new} {ev} site marks peer child one two three = record {
-  site = three.site ∙ two.site ∙ one.site ∙ site;
-  marks = three.marks ∙ two.marks ∙ one.marks ∙ marks;
-  peer_is = three.peer_is ∙ two.peer_is ∙ ap (λ (p : Option Peer). peer_after p ev) (one.peer_is ∙ peer);
-  child = λ ks w. three.child ks (two.child ks (one.child ks (child ks w)));
-}
+pub heard_by : {old mid later new : Conn} {ev : Event} (m : Marks) → m ≡ noted (marks_of old) (In ev) → Kept (record old { marks = m }) mid
+    → (is_tick (In ev) ≡ true → run_settled mid.run ≡ run_settled old.run) → HeardOwn mid ev later → Settles later new → Heard old ev new
+heard_by {old} {mid} {later} {new} {ev} m is one same two three =
+    let end : Turned later new = settles_turned three in
+    let number : number_of mid ≡ number_of old = ap (λ (v : Marks). v.c) (one.marks ∙ is) in
+    let later_number : number_of later ≡ number_of mid = ap (λ (v : Marks). v.c) two.marks in
+    record {
+      site = end.site ∙ two.site ∙ one.site;
+      marks = end.marks ∙ two.marks ∙ one.marks ∙ is;
+      peer_is = end.peer_is ∙ two.peer_is ∙ ap (λ (p : Option Peer). peer_after p ev) one.peer_is;
+      child = λ ks w. end.child ks (two.child ks (one.child ks w));
+      moves = end.moves;
+      none = end.none;
+      keeps = λ e least settled known.
+          let first : StandsFor mid e = known_same one.site number one.peer_is one.lost one.reading one.front known in
+          let least_then : 2 ≤ (site_of mid).limits.head = subst (λ (t : Site). 2 ≤ t.limits.head) (sym one.site) least in
+          let settled_then : run_settled old.run ≡ is_settled_as mid e = subst (λ (d : ℕ). run_settled old.run ≡ not (has_unsettled e.items d)) (sym number) settled in
+          let heard = events_known (site_of mid) (number_of mid) (peer_of mid) mid.lost later.lost (is_reading mid.stage) (is_reading later.stage) (front_of mid) (front_of later)
+          e ev (run_settled old.run) least_then settled_then two.lost two.reading
+          (hears_as (site_of mid).limits (number_of mid) (run_settled mid.run) (run_settled old.run) (peer_of mid) later.lost (front_of mid) (In ev) (front_of later) same two.front) first in
+          let after : StandsFor later (pushed e (In ev)) = known_same two.site later_number two.peer_is (λ l. l) (λ r. r) refl heard in
+          leads_as (site_of old) (site_of later) (number_of old) (number_of later) later new end.moves (two.site ∙ one.site) (later_number ∙ number) end.keeps
+          (pushed e (In ev)) after;
+    }
 
 filled_by : (bytes : List ℕ) → (length bytes == 0) ≡ false → is_filled bytes ≡ true
 filled_by [] e = sym e
 filled_by (b ∷ bytes) e = refl
 
-pub write_allowed : (m : Marks) (k : ℕ) (bytes : List ℕ) → may_write m ≡ true → (length bytes == 0) ≡ false → is_allowed m (Write k bytes) ≡ true
-write_allowed m k bytes may some = and_from (may_write m && is_filled bytes) true (and_from (may_write m) (is_filled bytes) may (filled_by bytes some)) refl
+pub write_allowed : (m : Marks) (k : ℕ) (byte : ℕ) (bytes : List ℕ) → may_write m ≡ true → is_allowed m (Write k (byte ∷ bytes)) ≡ true
+write_allowed m k byte bytes may = and_from (may_write m && true) true (and_from (may_write m) true may refl) refl
+
+-- ---- Writes
+
+pub gave_write : {new : Conn} {n : ℕ} {b d : Option (List Item)} (bytes : List ℕ) (found : Bool) (old : Conn) → may_write (marks_of old) ≡ true → old.closing ≡ false
+    → new ≡ wrote bytes found old → Adds b (acts_written (number_of old) bytes found) d → Gave old n b new n d
+gave_write {new} {n} {b} {d} bytes found old may open_yet is told =
+    subst (λ (conn : Conn). Gave old n b conn n d) (sym is) (go bytes found told)
+  where
+    go : (text : List ℕ) (f : Bool) → Adds b (acts_written (number_of old) text f) d → Gave old n b (wrote text f old) n d
+    go [] f t = gave_still (kept_turned (kept_same old)) t
+    go (byte ∷ text) true t =
+        gave_plain (Write (number_of old) (byte ∷ text)) refl (write_allowed (marks_of old) (number_of old) byte text may) t
+        (record { site = refl; marks = refl; peer_is = refl; child = λ ks w. w; front = refl; lost = λ l. l; reading = λ r. r })
+        (λ e known. sym known.closing ∙ open_yet)
+    go (byte ∷ text) false t = gave_still (kept_turned (losing_kept old)) t
+
+-- ---- 100 Continue
+
+pub gave_continue : {new : Conn} {n : ℕ} {b d : Option (List Item)} (found : Bool) (old : Conn) → may_write (marks_of old) ≡ true → old.closing ≡ false
+    → new ≡ continued found old → Adds b (acts_continued (number_of old) found) d → Gave old n b new n d
+gave_continue {new} {n} {b} {d} found old may open_yet is told =
+    subst (λ (conn : Conn). Gave old n b conn n d) (sym is) (go found told)
+  where
+    go : (f : Bool) → Adds b (acts_continued (number_of old) f) d → Gave old n b (continued f old) n d
+    go true t = record {
+      acts = Write (number_of old) continue_text ∷ [];
+      told = t;
+      next = refl;
+      site = refl;
+      peer_is = refl;
+      form = and_from _ _ (and_from (may_write (marks_of old) && true) true (and_from (may_write (marks_of old)) true may refl) refl) refl;
+      marks = refl;
+      own = λ ks w. plain_own (number_of old) n ks (Write (number_of old) continue_text) (continued true old) refl w;
+      moves = continues (number_of old) ∷ [];
+      same = refl;
+      keeps = λ e known a. (
+        continues_known (site_of old) (number_of old) (peer_of old) old.lost (is_reading old.stage) (front_of old) e a.1 known,
+        (sym known.closing ∙ open_yet, tt),
+      );
+    }
+    go false t = gave_still (kept_turned (losing_kept old)) t
+
+-- ---- the request was looked at
+
+pub looked : {new : Conn} (old : Conn) (i : Incoming) → site_of new ≡ site_of old → marks_of new ≡ marks_of old → peer_of new ≡ peer_of old
+    → ((ks : List ℕ) → HasChildIn old ks → HasChildIn new ks) → (old.lost ≡ true → new.lost ≡ true) → front_of new ≡ record (front_of old) { request = i }
+    → limits_of i ≡ limits_of old.request
+    → (new.lost ≡ false → (bytes : List ℕ) (taken : ℕ) → Knows old.request bytes taken → (is_reading old.stage ≡ true → is_ready old.request ≡ false)
+    → IsHeard i (is_reading new.stage) bytes) → Turned old new
+looked {new} old i site marks peer child lost front limits next = record {
+  site = site;
+  marks = marks;
+  peer_is = peer;
+  child = child;
+  moves = [];
+  none = refl;
+  keeps = leads_none (site_of old) (number_of old) old new
+      (λ e known. known_same site (ap (λ (m : Marks). m.c) marks) peer (λ l. l) (λ r. r) front
+      (known_request (site_of old) (number_of old) (peer_of old) old.lost new.lost (is_reading old.stage) (is_reading new.stage) (front_of old) i e lost limits
+      (λ l. next l (request_bytes (number_of old) e)) known));
+}
+
+-- bytes that are 100 Continue
+pub continue_acts : (c : ℕ) (bytes : List ℕ) (found : Bool) → bytes ≡ continue_text → acts_written c bytes found ≡ acts_continued c found
+continue_acts c bytes found is = ap (λ (text : List ℕ). acts_written c text found) is ∙ go found
+  where
+    go : (b : Bool) → acts_written c continue_text b ≡ acts_continued c b
+    go true = refl
+    go false = refl

@@ -1,2 +1,3 @@
 pub mod GaveLaws
 pub mod StepLaws
+pub mod HearLaws

@@ -1,5 +1,5 @@
 -- What is known of a connection's list after a step.
-use Rattle.std.proofs.Common.{◌≡◌, ℕ, Bool, true, List, [], ◌∷◌, ◌++◌, map, Option, refl, sym, subst, append_assoc}
+use Rattle.std.proofs.Common.{◌≡◌, ◌≤◌, ◌∙◌, ap, ℕ, Bool, true, false, List, [], ◌∷◌, ◌++◌, map, Option, refl, sym, subst, append_assoc}
 use Rattle.host_trace.specs.declared.items.Event.{Event}
 use Rattle.host_trace.specs.declared.items.Item.{Item}
 use Rattle.host_trace.specs.declared.items.Item.TheVariants.{In, Out}
@@ -12,7 +12,14 @@ use Rattle.conn_marks.proofs.KnowsLaws.{events_admitted, known_all, known_next}
 use Rattle.conn_laws.specs.Form.{all_come, all_in_time}
 use Rattle.conn_laws.proofs.FormLaws.{acts_come, acts_in_time}
 use Rattle.conn_core.specs.declared.conn.Conn.{Conn}
-use Rattle.conn_core.specs.Kept.{HasChildIn, Stepped, marks_of, number_of}
+use Rattle.host_trace.specs.declared.items.Act.{Act}
+use Rattle.trace_model.specs.Exchange.{Exchange, pushed}
+use Rattle.trace_model.specs.Exchanges.{current, current_after, has_ended, next_of}
+use Rattle.trace_model.proofs.ExchangeLaws.{current-step}
+use Rattle.conn_front.specs.Moves.{AreInStep, moved}
+use Rattle.conn_front.proofs.MoveLaws.{moves_cut}
+use Rattle.conn_core.specs.Kept.{HasChildIn, StandsFor, Stepped, is_settled_as, marks_of, number_of, site_of}
+use Rattle.conn_core.specs.Slot.{run_settled}
 
 event_known : (limit : ℕ) (m : Marks) (L : List Item) (ev : Event) → KnowsMarks m L → fits_own limit L ev ≡ true → KnowsMarks (noted m (In ev)) (L ++ In ev ∷ [])
 event_known limit m L ev k f = known_next m L (In ev) k (events_admitted limit m L ev k f)
@@ -37,3 +44,20 @@ pub step_in_time : (limit : ℕ) (old new : Conn) (ev : Event) (n m : ℕ) (befo
     → all_in_time (number_of old) (L ++ In ev ∷ []) s.acts ≡ true
 step_in_time limit old new ev n m before after L s k f =
     acts_in_time (noted (marks_of old) (In ev)) (L ++ In ev ∷ []) s.acts (event_known limit (marks_of old) L ev k f) s.form
+
+pub step_fronts : (old new : Conn) (ev : Event) (n m : ℕ) (before after : Option (List Item)) (L : List Item)
+    → (s : Stepped old ev n before new m after) → 2 ≤ (site_of old).limits.head
+    → run_settled old.run ≡ is_settled_as old (current (site_of old) (number_of old) L) → StandsFor old (current (site_of old) (number_of old) L)
+    → AreInStep (site_of old) (number_of old) (pushed (current (site_of old) (number_of old) L) (In ev)) s.moves
+    → has_ended (site_of old) (number_of old) (moved (site_of old) (number_of old) (pushed (current (site_of old) (number_of old) L) (In ev)) s.moves) ≡ false
+    → StandsFor new (current (site_of old) (number_of old) (after_step L ev s.acts))
+step_fronts old new ev n m before after L s two settled known in_step on =
+    let site = site_of old in
+    let c = number_of old in
+    let first : Exchange = pushed (current site c L) (In ev) in
+    let led : StandsFor new (moved site c first s.moves) = (s.keeps (current site c L) two settled known in_step).0 in
+    let is : current site c (after_step L ev s.acts) ≡ moved site c first s.moves =
+    current-step site c L ev s.acts
+    ∙ (ap (λ (acts : List Act). current_after site c (next_of site c (current site c L) (In ev)) (map Out acts)) (sym s.same)
+    ∙ moves_cut site c first s.moves in_step on) in
+    subst (λ (e : Exchange). StandsFor new e) (sym is) led

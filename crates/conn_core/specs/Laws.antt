@@ -1,5 +1,5 @@
 -- What is known of a connection's list after a step.
-use Rattle.std.specs.Prelude.{ℕ, Bool, true, ◌≡◌, List, [], ◌∷◌, ◌++◌, Option}
+use Rattle.std.specs.Prelude.{ℕ, Bool, true, false, ◌≤◌, ◌≡◌, List, [], ◌∷◌, ◌++◌, Option}
 use Rattle.host_trace.specs.declared.items.Event.{Event}
 use Rattle.host_trace.specs.declared.items.Item.{Item}
 use Rattle.host_trace.specs.declared.items.Item.TheVariants.{In}
@@ -8,7 +8,11 @@ use Rattle.own_traces.specs.OwnFits.{fits_own}
 use Rattle.conn_marks.specs.Knows.{Knows as KnowsMarks}
 use Rattle.conn_laws.specs.Form.{all_come, all_in_time}
 use Rattle.conn_core.specs.declared.conn.Conn.{Conn}
-use Rattle.conn_core.specs.Kept.{HasChildIn, Stepped, marks_of, number_of}
+use Rattle.trace_model.specs.Exchange.{pushed}
+use Rattle.trace_model.specs.Exchanges.{current, has_ended}
+use Rattle.conn_front.specs.Moves.{AreInStep, moved}
+use Rattle.conn_core.specs.Kept.{HasChildIn, StandsFor, Stepped, is_settled_as, marks_of, number_of, site_of}
+use Rattle.conn_core.specs.Slot.{run_settled}
 
 -- Where the marks of a connection know the list, they know it with the step of an event that fits.
 abbrev pub StepsAreKnown : Type 0
@@ -27,3 +31,13 @@ abbrev pub StepsAreInTime : Type 0
 StepsAreInTime = (limit : ℕ) (old new : Conn) (ev : Event) (n m : ℕ) (before after : Option (List Item)) (L : List Item)
     → (s : Stepped old ev n before new m after) → KnowsMarks (marks_of old) L → fits_own limit L ev ≡ true
     → all_in_time (number_of old) (L ++ In ev ∷ []) s.acts ≡ true
+
+-- Where its front is that of the exchange that goes on, and its acts and the ends of exchanges that it notices keep step
+-- with the model, so is it after the step of an event, at whose end no exchange has ended that it hasn't noticed.
+abbrev pub StepsKeepFronts : Type 0
+StepsKeepFronts = (old new : Conn) (ev : Event) (n m : ℕ) (before after : Option (List Item)) (L : List Item)
+    → (s : Stepped old ev n before new m after) → 2 ≤ (site_of old).limits.head
+    → run_settled old.run ≡ is_settled_as old (current (site_of old) (number_of old) L) → StandsFor old (current (site_of old) (number_of old) L)
+    → AreInStep (site_of old) (number_of old) (pushed (current (site_of old) (number_of old) L) (In ev)) s.moves
+    → has_ended (site_of old) (number_of old) (moved (site_of old) (number_of old) (pushed (current (site_of old) (number_of old) L) (In ev)) s.moves) ≡ false
+    → StandsFor new (current (site_of old) (number_of old) (after_step L ev s.acts))

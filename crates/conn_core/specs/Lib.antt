@@ -1,4 +1,6 @@
-pub mod Kept
 pub mod Slot
+pub mod Kept
 pub mod Moves
+pub mod Settles
+pub mod Writes
 pub mod Laws

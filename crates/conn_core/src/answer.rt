@@ -3,38 +3,46 @@ ghost use Rattle.std.specs.Prelude.{◌≡◌, IfOk, option_map};
 ghost use Rattle.reply_writer.specs.WholeRules.{IsStamp};
 
 use crate::conn::Conn;
-use crate::stage::{Leg, Stage};
 use child_core::Outcome;
+use exchange_reply::{LegReply, fault_text};
+use exchange_stage::{Leg, Stage};
 use host_base::{Bytes, Cause, NoMemory, Request, ScriptKind};
 use reply_stream::Last;
-use reply_writer::{DateText, date_text, fault_reply, whole_text};
 use request_reader::redirected;
 use script_map::{is_local, redirect_target};
 use std::alloc::Global;
 use std::mem;
 
-fn date_of(now: Option<u64>) -> Option<DateText>
-    requires { IsStamp now }
-{
-    match now {
-        Some(secs) => Some(date_text(secs)),
-        None => None,
-    }
-}
-
-// The host's own reply for a cause.
-fn fault_text(
-    alloc: Global,
-    cause: Cause,
-    bare: bool,
+// What is to be written of a piece of the output, of which there may be none.
+fn heard_text(
+    reply: &mut LegReply,
+    piece: Bytes,
     closes: bool,
     now: Option<u64>,
 ) -> Result<Bytes, NoMemory>
     requires { IsStamp now }
 {
-    let reply = fault_reply(alloc, cause)?;
-    let date = date_of(now);
-    whole_text(alloc, &reply, bare, closes, date.as_ref())
+    if piece.is_empty() {
+        return Ok(piece);
+    }
+    reply.hear(piece, closes, now)
+}
+
+// What is to be written because of a Tick, if one came.
+fn ticked_text(
+    alloc: Global,
+    reply: &mut LegReply,
+    came: bool,
+    closes: bool,
+    now: Option<u64>,
+) -> Result<Bytes, NoMemory>
+    requires { IsStamp now }
+{
+    if came {
+        reply.tick(closes, now)
+    } else {
+        Ok(Bytes::new(alloc))
+    }
 }
 
 // The request of a local redirect (RFC 3875 6.2.2); nothing for a location that is none of a local redirect.
@@ -125,9 +133,6 @@ impl<'s> Conn<'s> {
     {
         let mut leg = leg;
         let closes = self.closes_by(leg.kind);
-        if !leg.stream.has_begun() {
-            leg.closes = closes;
-        }
         match self.next_text(&mut leg, closes, now) {
             Ok(text) => {
                 leg.text = text;
@@ -147,7 +152,7 @@ impl<'s> Conn<'s> {
         }
     }
 
-    // What is to be written of the output that was heard since, or because of a Tick.
+    // What is to be written of the output that was heard since, and because of a Tick.
     fn next_text(
         &mut self,
         leg: &mut Leg,
@@ -158,14 +163,14 @@ impl<'s> Conn<'s> {
         ensures kept { Kept self.old self.new }
     {
         let piece = self.next_piece();
-        if !piece.is_empty() {
-            return leg.stream.hear(piece, closes, now);
+        let mut text = heard_text(&mut leg.reply, piece, closes, now)?;
+        let came = mem::replace(&mut leg.ticked, false);
+        let more = ticked_text(self.alloc, &mut leg.reply, came, closes, now)?;
+        if text.is_empty() {
+            return Ok(more);
         }
-        if leg.ticked {
-            leg.ticked = false;
-            return leg.stream.tick(closes, now);
-        }
-        Ok(Bytes::new(self.alloc))
+        text.extend_from_slice(more.as_slice())?;
+        Ok(text)
     }
 
     // The output has ended.
@@ -174,18 +179,14 @@ impl<'s> Conn<'s> {
         ensures kept { Kept self.old self.new }
     {
         let closes_now = self.closes_by(leg.kind);
-        let closes = if leg.stream.has_begun() {
-            leg.closes
-        } else {
-            closes_now
-        };
+        let closes = leg.reply.closes(closes_now);
         let Leg {
             hop,
             request,
-            stream,
+            reply,
             ..
         } = leg;
-        match stream.end(closes_now, now) {
+        match reply.end(closes_now, now) {
             Ok(Last::Written(text)) => self.put(Stage::Finishing { text, closes }),
             Ok(Last::Hop(location)) => self.hop(hop, &request, &location),
             Ok(Last::Bad(cause)) => self.ready_fault(cause, is_head(&request), closes_now, now),
@@ -215,11 +216,11 @@ impl<'s> Conn<'s> {
         requires { IsStamp now }
         ensures kept { Kept self.old self.new }
     {
-        if leg.stream.has_begun() {
-            self.cut = Some(cause);
-            return;
-        }
         let closes = self.closes_by(leg.kind);
-        self.ready_fault(cause, is_head(&leg.request), closes, now);
+        match leg.reply.fail(cause, closes, now) {
+            Ok(Some(text)) => self.put(Stage::Finishing { text, closes }),
+            Ok(None) => self.cut = Some(cause),
+            Err(NoMemory) => self.lose(),
+        }
     }
 }

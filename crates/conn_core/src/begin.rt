@@ -5,12 +5,13 @@ ghost use Rattle.meta_variables.specs.Launch.{HasTexts, NamesScript, is_text_or_
 ghost use Rattle.std.specs.Str.{is_utf8};
 
 use crate::conn::Conn;
-use crate::stage::{Leg, Stage};
+use exchange_reply::LegReply;
+use exchange_stage::{Leg, Stage};
 use host_base::{
     Bytes, Cause, Launch, Mapped, NoMemory, Refusal, Request, Script, ScriptKind, Site,
 };
 use meta_variables::launch;
-use reply_stream::{Asked, Stream};
+use reply_stream::Asked;
 use script_map::map;
 use std::{mem, str};
 use ws_handshake::check;
@@ -147,9 +148,8 @@ impl<'s> Conn<'s> {
             hop,
             kind,
             request,
-            stream: Stream::new(self.alloc, asked),
+            reply: LegReply::new(self.alloc, asked),
             ticked: false,
-            closes: false,
             text: Bytes::new(self.alloc),
         }
     }

@@ -1,8 +1,8 @@
 // The end of a step: the connection is shut, or its client asked.
 use crate::conn::Conn;
 use crate::give::give_plain;
-use crate::stage::Stage;
 use child_core::Ending;
+use exchange_stage::Stage;
 use host_trace::{Act, Outside, Why};
 
 impl<'s> Conn<'s> {
@@ -30,7 +30,7 @@ impl<'s> Conn<'s> {
             Some(Why::Cut(cause))
         } else if self.idled {
             Some(Why::Idle)
-        } else if self.closing || self.is_client_done() {
+        } else if self.closing || self.closes || self.is_client_done() {
             Some(Why::Done)
         } else {
             None

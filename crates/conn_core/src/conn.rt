@@ -1,8 +1,8 @@
 // The state of a connection, and a step.
-use crate::stage::Stage;
 use child_core::Run;
 use conn_marks::Marks;
 use exchange_request::Incoming;
+use exchange_stage::Stage;
 use host_base::{Cause, Peer, Site};
 use host_trace::{Event, Outside, Why};
 use limit_clock::Deadline;
@@ -30,8 +30,10 @@ pub struct Conn<'s> {
     pub(crate) lost: bool,
     /// No request began within the idle time.
     pub(crate) idled: bool,
-    /// An answer that closes the connection stands whole.
+    /// The answer of an earlier exchange closes the connection.
     pub(crate) closing: bool,
+    /// The answer of the exchange stands whole, and closes the connection.
+    pub(crate) closes: bool,
     /// A reply that had begun can't be finished, for this cause.
     pub(crate) cut: Option<Cause>,
     /// The number of the exchange.
@@ -51,7 +53,7 @@ impl<'s> Conn<'s> {
     ghost use Rattle.std.specs.Prelude.{ℕ, ◌≡◌, IfOk};
     ghost use Rattle.std.specs.Prelude.{None, true, false};
     ghost use Rattle.conn_marks.specs.View.{fresh, has_room, may_write};
-    ghost use Rattle.conn_core.specs.Kept.{Gave, Kept, Stepped, marks_of, number_of, peer_of, site_of};
+    ghost use Rattle.conn_core.specs.Kept.{Gave, Kept, Stepped, is_reading, marks_of, number_of, peer_of, site_of};
     ghost use Rattle.conn_core.specs.Slot.{child_of, held_of, run_settled};
     ghost use Rattle.reply_writer.specs.WholeRules.{IsStamp};
     ghost use Rattle.host_base.specs.SiteRules.{IsServed};
@@ -71,6 +73,7 @@ impl<'s> Conn<'s> {
             lost: false,
             idled: false,
             closing: false,
+            closes: false,
             cut: None,
             number: 0,
             idle_left: Deadline::after(site.limits.idle_ticks),
@@ -137,7 +140,7 @@ impl<'s> Conn<'s> {
 
     pub(crate) fn put(&mut self, stage: Stage)
         ensures value { self.new ≡ record self.old { stage = stage } }
-        ensures kept { Kept self.old self.new }
+        ensures kept { is_reading stage ≡ false → Kept self.old self.new }
     {
         self.stage = stage;
     }
@@ -177,6 +180,7 @@ impl<'s> Conn<'s> {
     pub(crate) fn is_ending(&self) -> bool
         ensures live { result ≡ false → may_write self.now.marks ≡ true }
         ensures stopped { result ≡ false → self.now.marks.stopped ≡ false }
+        ensures closing { result ≡ false → self.now.closing ≡ false }
     {
         !self.marks.may_write()
             || self.marks.is_stopped()
@@ -184,6 +188,7 @@ impl<'s> Conn<'s> {
             || self.lost
             || self.idled
             || self.closing
+            || self.closes
             || self.cut.is_some()
             || self.is_client_done()
     }

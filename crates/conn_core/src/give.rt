@@ -3,8 +3,8 @@ ghost use Rattle.std.specs.Prelude.{◌≡◌, ◌∷◌, [], true};
 ghost use Rattle.host_trace.specs.Told.{Adds, carries_nothing};
 
 use crate::conn::Conn;
-use crate::stage::{Leg, Stage};
 use child_core::{Ending, Run};
+use exchange_stage::{Leg, Stage};
 use host_base::{Bytes, Launch, NoMemory, ScriptKind};
 use host_trace::{Act, Acted, Outside};
 use limit_clock::Deadline;
@@ -27,6 +27,10 @@ impl<'s> Conn<'s> {
     ghost use Rattle.conn_marks.specs.Form.{may_start};
     ghost use Rattle.conn_core.specs.Kept.{Gave, Kept, site_of};
     ghost use Rattle.conn_core.specs.Moves.{ended_run, losing};
+    ghost use Rattle.conn_core.specs.Settles.{Follows, Settles, is_over, stood};
+    ghost use Rattle.conn_core.specs.Writes.{acts_continued, acts_written, continued, wrote};
+    ghost use Rattle.host_trace.specs.Told.{Adds};
+    ghost use Rattle.std.specs.Prelude.{false, ◌<◌, ◌^◌, ◌-◌};
     // Memory was wanting: the connection is over, and its child is given up.
     pub(crate) fn lose(&mut self)
         ensures value { self.new ≡ losing self.old }
@@ -47,8 +51,8 @@ impl<'s> Conn<'s> {
 
     // Writes bytes, of which there may be none; false where there was no room.
     fn write<O: Outside>(&mut self, bytes: Bytes, out: &mut O) -> bool
-        requires { may_write self.old.marks ≡ true }
-        ensures gave { (n : ℕ) → Gave self.old n (O.trace out.old) self.new n (O.trace out.new) }
+        ensures value { self.new ≡ wrote bytes result self.old }
+        ensures told { Adds (O.trace out.old) (acts_written self.old.marks.c bytes result) (O.trace out.new) }
         ensures limit { O.limit out.new ≡ O.limit out.old }
     {
         if bytes.is_empty() {
@@ -78,34 +82,39 @@ impl<'s> Conn<'s> {
         ensures gave { (n : ℕ) → Gave self.old n (O.trace out.old) self.new n (O.trace out.new) }
         ensures limit { O.limit out.new ≡ O.limit out.old }
     {
-        if !self.is_continue_due() {
-            return;
-        }
-        match Bytes::from_slice(self.alloc, CONTINUE) {
-            Ok(bytes) => {
-                let found = self.write(bytes, out);
-                self.note_continued(found);
-            }
-            Err(NoMemory) => self.lose(),
+        if self.is_continue_due() {
+            let _found = self.write_continue(out);
         }
     }
 
-    fn note_continued(&mut self, found: bool)
-        ensures value { self.new ≡ record self.old { continued = found } }
-        ensures kept { Kept self.old self.new }
+    // Writes it; false where memory was wanting.
+    fn write_continue<O: Outside>(&mut self, out: &mut O) -> bool
+        ensures value { self.new ≡ continued result self.old }
+        ensures told { Adds (O.trace out.old) (acts_continued self.old.marks.c result) (O.trace out.new) }
+        ensures limit { O.limit out.new ≡ O.limit out.old }
     {
-        self.continued = found;
+        let Ok(bytes) = Bytes::from_slice(self.alloc, CONTINUE) else {
+            self.lose();
+            return false;
+        };
+        let found = self.write(bytes, out);
+        if found {
+            self.continued = true;
+        }
+        found
     }
 
     pub(crate) fn is_continue_due(&self) -> bool
-        ensures { result ≡ true → may_write self.now.marks ≡ true }
+        ensures may { result ≡ true → may_write self.now.marks ≡ true }
+        ensures closing { result ≡ true → self.now.closing ≡ false }
     {
         !self.is_ending() && self.request.is_due() && !self.continued
     }
 
     // Gives what is ready of an answer: a part, or all that is left.
     pub(crate) fn give_answer<O: Outside>(&mut self, out: &mut O)
-        requires { may_write self.old.marks ≡ true }
+        requires may { may_write self.old.marks ≡ true }
+        requires open { self.old.closing ≡ false }
         ensures gave { (n : ℕ) → Gave self.old n (O.trace out.old) self.new n (O.trace out.new) }
         ensures limit { O.limit out.new ≡ O.limit out.old }
     {
@@ -118,7 +127,8 @@ impl<'s> Conn<'s> {
 
     // Gives what is ready of a hop: a Start, or the reply for a cause that was found there.
     pub(crate) fn give_hop<O: Outside>(&mut self, children: &mut u64, out: &mut O)
-        requires { may_start self.old.marks ≡ true }
+        requires may { may_start self.old.marks ≡ true }
+        requires open { self.old.closing ≡ false }
         ensures gave { Gave self.old children.old (O.trace out.old) self.new children.new (O.trace out.new) }
         ensures limit { O.limit out.new ≡ O.limit out.old }
     {
@@ -140,7 +150,8 @@ impl<'s> Conn<'s> {
     }
 
     fn give_part<O: Outside>(&mut self, leg: Leg, out: &mut O)
-        requires { may_write self.old.marks ≡ true }
+        requires may { may_write self.old.marks ≡ true }
+        requires open { self.old.closing ≡ false }
         ensures gave { (n : ℕ) → Gave self.old n (O.trace out.old) self.new n (O.trace out.new) }
         ensures limit { O.limit out.new ≡ O.limit out.old }
     {
@@ -151,7 +162,8 @@ impl<'s> Conn<'s> {
     }
 
     fn give_rest<O: Outside>(&mut self, text: Bytes, closes: bool, out: &mut O)
-        requires { may_write self.old.marks ≡ true }
+        requires may { may_write self.old.marks ≡ true }
+        requires open { self.old.closing ≡ false }
         ensures gave { (n : ℕ) → Gave self.old n (O.trace out.old) self.new n (O.trace out.new) }
         ensures limit { O.limit out.new ≡ O.limit out.old }
     {
@@ -163,9 +175,9 @@ impl<'s> Conn<'s> {
 
     // The whole answer stands.
     fn stand(&mut self, closes: bool)
-        ensures kept { Kept self.old self.new }
+        ensures { Settles (stood closes self.old) self.new }
     {
-        self.closing |= closes;
+        self.closes = closes;
         self.put(Stage::Answered);
         self.settle();
     }
@@ -189,10 +201,15 @@ impl<'s> Conn<'s> {
     )
         requires number { run.number ≡ children.old }
         requires may { may_start self.old.marks ≡ true }
+        requires open { self.old.closing ≡ false }
         ensures gave { Gave self.old children.old (O.trace out.old) self.new children.new (O.trace out.new) }
         ensures limit { O.limit out.new ≡ O.limit out.old }
     {
         let k = *children;
+        if !self.is_counted() {
+            self.lose();
+            return;
+        }
         let Some(next) = k.checked_add(1) else {
             self.lose();
             return;
@@ -215,17 +232,38 @@ impl<'s> Conn<'s> {
         }
     }
 
+    // Its number is that of the exchange: they are counted no further.
+    fn is_counted(&self) -> bool
+        ensures { result ≡ true → self.now.number < 2 ^ 128 - 1 }
+    {
+        self.number < u128::MAX
+    }
+
     // Where the exchange is over the next one begins.
     pub(crate) fn settle(&mut self)
-        ensures kept { Kept self.old self.new }
+        ensures { Settles self.old self.new }
     {
-        if matches!(self.stage, Stage::Answered) && self.is_settled() {
-            self.number = self.number.saturating_add(1);
-            self.idle_left = Deadline::after(self.site.limits.idle_ticks);
-            self.request.go_on();
-            self.continued = false;
-            self.put(Stage::Reading);
-            self.put_run(None);
+        if self.is_over() {
+            self.go_to_next();
         }
+    }
+
+    fn is_over(&self) -> bool
+        ensures { result ≡ is_over self.now }
+    {
+        matches!(self.stage, Stage::Answered) && self.is_settled()
+    }
+
+    fn go_to_next(&mut self)
+        ensures { Follows self.old self.new }
+    {
+        self.number = self.number.saturating_add(1);
+        self.idle_left = Deadline::after(self.site.limits.idle_ticks);
+        self.request.go_on();
+        self.continued = false;
+        self.closing |= self.closes;
+        self.closes = false;
+        self.stage = Stage::Reading;
+        self.run = None;
     }
 }

@@ -1,16 +1,22 @@
 // What an event changes.
 use crate::conn::Conn;
-use crate::stage::Stage;
 use child_core::Ending;
-use host_base::{Bytes, Cause, Peer};
+use exchange_stage::Stage;
+use host_base::{Bytes, Cause, NoMemory, Peer};
 use host_trace::Event;
 use limit_clock::Deadline;
 
 impl<'s> Conn<'s> {
-    ghost use Rattle.std.specs.Prelude.{ℕ, ◌≡◌, IfOk};
-    ghost use Rattle.std.specs.Prelude.{Some};
-    ghost use Rattle.host_trace.specs.First.{or_else};
-    ghost use Rattle.conn_core.specs.Kept.{Heard, Kept, KeptFor, peer_after, peer_of};
+    ghost use Rattle.std.specs.Prelude.{ℕ, ◌≡◌, ◌≤◌, ◌||◌, ◌&&◌, ◌==◌, not, IfOk, OnOk, is_some};
+    ghost use Rattle.std.specs.Prelude.{List, Some, true, false};
+    ghost use Rattle.host_trace.specs.declared.items.Item.TheVariants.{In};
+    ghost use Rattle.host_trace.specs.declared.items.Event.TheVariants.{Accepted, ClientBytes, Tick};
+    ghost use Rattle.host_trace.specs.Kinds.{is_tick};
+    ghost use Rattle.request_reader.specs.Request.{is_begun};
+    ghost use Rattle.exchange_request.specs.Knows.{Knows, limits_of};
+    ghost use Rattle.conn_core.specs.Kept.{Heard, HeardOwn, Kept, peer_of, site_of};
+    ghost use Rattle.conn_core.specs.Moves.{IdlesOut, OnlyBody, grown_stage, ticked_stage};
+    ghost use Rattle.conn_core.specs.Slot.{run_settled};
     // Takes an event into account, and gives no act.
     pub(crate) fn hear(&mut self, ev: Event)
         ensures heard { Heard self.old ev self.new }
@@ -22,7 +28,7 @@ impl<'s> Conn<'s> {
     }
 
     fn hear_own(&mut self, ev: Event)
-        ensures kept { KeptFor (peer_after (peer_of self.old) ev) self.old self.new }
+        ensures { HeardOwn self.old ev self.new }
     {
         match ev {
             Event::Accepted { peer } => self.hear_accepted(peer),
@@ -54,6 +60,7 @@ impl<'s> Conn<'s> {
     // What its child hears.
     fn hear_run(&mut self, ev: &Event)
         ensures kept { Kept self.old self.new }
+        ensures settled { is_tick (In ev.now) ≡ true → run_settled self.new.run ≡ run_settled self.old.run }
     {
         let heard = match &mut self.run {
             None => Ok(()),
@@ -65,16 +72,16 @@ impl<'s> Conn<'s> {
     }
 
     fn hear_accepted(&mut self, peer: Peer)
-        ensures kept { KeptFor (or_else (peer_of self.old) (Some peer)) self.old self.new }
+        ensures { HeardOwn self.old (Accepted peer) self.new }
     {
+        self.idle_left = Deadline::after(self.site.limits.idle_ticks);
         if self.peer.is_none() {
             self.peer = Some(peer);
-            self.idle_left = Deadline::after(self.site.limits.idle_ticks);
         }
     }
 
     fn hear_bytes(&mut self, bytes: Bytes)
-        ensures kept { Kept self.old self.new }
+        ensures { HeardOwn self.old (ClientBytes self.old.marks.c bytes) self.new }
     {
         self.idle_left = Deadline::after(self.site.limits.idle_ticks);
         match self.request.feed(bytes.as_slice()) {
@@ -85,7 +92,7 @@ impl<'s> Conn<'s> {
 
     // Offers the child what came of the body of a request that is served already.
     fn hear_body(&mut self)
-        ensures kept { Kept self.old self.new }
+        ensures { OnlyBody self.old self.new }
     {
         if matches!(self.stage, Stage::Reading)
             || self.request.is_whole()
@@ -102,14 +109,37 @@ impl<'s> Conn<'s> {
     fn offer(&mut self, body: Bytes)
         ensures kept { Kept self.old self.new }
     {
+        let kept = self.keep_body(&body);
+        let offered = self.offer_run(&body);
+        if kept.is_err() || offered.is_err() {
+            self.lose();
+        }
+    }
+
+    // A script that waits for its turn is started with what came of the body until then.
+    fn keep_body(&mut self, body: &Bytes) -> Result<(), NoMemory>
+        ensures kept { Kept self.old self.new }
+        ensures stage { OnOk result (self.new.stage ≡ grown_stage body.now self.old.stage) }
+        ensures run { self.new.run ≡ self.old.run }
+    {
+        if let Stage::Unstarted { hop, request } = &mut self.stage {
+            if *hop == 0 {
+                return request.body.extend_from_slice(body.as_slice());
+            }
+        }
+        Ok(())
+    }
+
+    // One that runs is offered it.
+    fn offer_run(&mut self, body: &Bytes) -> Result<(), NoMemory>
+        ensures kept { Kept self.old self.new }
+        ensures stage { self.new.stage ≡ self.old.stage }
+    {
         let whole = self.request.is_whole();
         let is_first = matches!(&self.stage, Stage::Running(leg) if leg.hop == 0);
-        let offered = match &mut self.run {
+        match &mut self.run {
             Some(run) if is_first && !run.is_offered_whole() => run.offer(body.as_slice(), whole),
             _ => Ok(()),
-        };
-        if offered.is_err() {
-            self.lose();
         }
     }
 
@@ -134,27 +164,45 @@ impl<'s> Conn<'s> {
     fn interrupt(&mut self, cause: Cause)
         ensures kept { Kept self.old self.new }
     {
-        let untouched = match &self.stage {
-            Stage::Reading | Stage::Refused(_) | Stage::Unstarted { .. } => self.run.is_none(),
-            _ => false,
-        };
-        if untouched && !self.marks.is_shut() && self.request.has_begun() {
+        if self.is_untouched() && !self.marks.is_shut() && self.request.has_begun() {
             self.put(Stage::Interrupted(cause));
         }
     }
 
+    // Nothing was done for its request.
+    fn is_untouched(&self) -> bool {
+        match &self.stage {
+            Stage::Reading | Stage::Refused(_) | Stage::Unstarted { .. } => self.run.is_none(),
+            _ => false,
+        }
+    }
+
     fn hear_tick(&mut self)
-        ensures kept { Kept self.old self.new }
+        ensures { (secs : ℕ) → HeardOwn self.old (Tick secs) self.new }
+    {
+        self.note_tick();
+        if self.is_settled() && self.idle_left.tick() {
+            self.idle_out();
+        }
+    }
+
+    // A reply may be due because of the Tick.
+    fn note_tick(&mut self)
+        ensures { self.new ≡ record self.old { stage = ticked_stage self.old.stage } }
     {
         if let Stage::Running(leg) = &mut self.stage {
             leg.ticked = true;
         }
-        if self.is_settled() && self.idle_left.tick() {
-            if self.request.has_begun() {
-                self.interrupt(Cause::IdleTime);
-            } else {
-                self.idled = self.peer.is_some();
-            }
+    }
+
+    // The client sent nothing for the idle time.
+    fn idle_out(&mut self)
+        ensures { IdlesOut self.old self.new }
+    {
+        if self.request.has_begun() {
+            self.interrupt(Cause::IdleTime);
+        } else {
+            self.idled |= self.peer.is_some();
         }
     }
 }

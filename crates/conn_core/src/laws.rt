@@ -1,5 +1,5 @@
 // Laws of the steps of a connection. Each function is one law, and does nothing.
-ghost use Rattle.conn_core.specs.Laws.{StepsAreKnown, StepsAreInForm, StepsAreInTime};
+ghost use Rattle.conn_core.specs.Laws.{StepsAreKnown, StepsAreInForm, StepsAreInTime, StepsKeepFronts};
 
 /// The marks of a connection know its list after each step of an event that fits.
 pub fn steps_are_known()
@@ -14,4 +14,9 @@ pub fn steps_are_in_form()
 /// Its Starts and questions wait for room, and come before the server is to end.
 pub fn steps_are_in_time()
     ensures { StepsAreInTime }
+{}
+
+/// What a connection knows of its exchange beside its script goes on with each step that keeps step with the model.
+pub fn steps_keep_fronts()
+    ensures { StepsKeepFronts }
 {}

@@ -9,7 +9,6 @@ mod give;
 mod hear;
 mod laws;
 mod serve;
-mod stage;
 
 pub use conn::{Conn, Held};
-pub use laws::{steps_are_in_form, steps_are_in_time, steps_are_known};
+pub use laws::{steps_are_in_form, steps_are_in_time, steps_are_known, steps_keep_fronts};

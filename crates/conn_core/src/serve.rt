@@ -1,15 +1,15 @@
 // The acts of a step, exchange after exchange.
 use crate::conn::Conn;
-use crate::stage::Stage;
 use exchange_request::Found;
+use exchange_stage::Stage;
 use host_base::NoMemory;
 use host_trace::Outside;
 
 impl<'s> Conn<'s> {
     ghost use Rattle.std.specs.Prelude.{ℕ, ◌≡◌, IfOk};
-    ghost use Rattle.std.specs.Prelude.{true};
+    ghost use Rattle.std.specs.Prelude.{true, false};
     ghost use Rattle.conn_marks.specs.Form.{may_start};
-    ghost use Rattle.conn_core.specs.Kept.{Gave, Kept, site_of};
+    ghost use Rattle.conn_core.specs.Kept.{Gave, Turned, is_reading, site_of};
     ghost use Rattle.reply_writer.specs.WholeRules.{IsStamp};
     ghost use Rattle.host_base.specs.SiteRules.{IsServed};
     // Answers, handles the child, and begins whatever may begin.
@@ -64,7 +64,7 @@ impl<'s> Conn<'s> {
 
     // Looks for a request that can be served.
     fn look(&mut self)
-        ensures kept { Kept self.old self.new }
+        ensures { Turned self.old self.new }
     {
         if self.is_ending() || !self.is_unread() {
             return;
@@ -109,13 +109,16 @@ impl<'s> Conn<'s> {
     }
 
     // The request is being read, and bytes came that nobody has looked at.
-    fn is_unread(&self) -> bool {
+    fn is_unread(&self) -> bool
+        ensures { result ≡ true → is_reading self.now.stage ≡ true }
+    {
         matches!(self.stage, Stage::Reading) && self.request.is_fresh()
     }
 
     // A hop may begin, or what was found on the way to it be answered.
     fn has_turn(&self) -> bool
-        ensures { result ≡ true → may_start self.now.marks ≡ true }
+        ensures may { result ≡ true → may_start self.now.marks ≡ true }
+        ensures open { result ≡ true → self.now.closing ≡ false }
     {
         !self.is_ending() && self.is_settled() && self.has_room()
     }

@@ -45,7 +45,7 @@ fn due_of(request: &Request) -> bool
 }
 
 impl Incoming {
-    ghost use Rattle.std.specs.Prelude.{◌≡◌, ◌≤◌, ◌+◌, ◌++◌, ◌&&◌, ℕ, List, [], length, drop, Option, Some, true, false, not, option_map, IfOk, OnOk, OnErr, IsTrue};
+    ghost use Rattle.std.specs.Prelude.{◌≡◌, ◌≤◌, ◌+◌, ◌++◌, ◌&&◌, ℕ, List, [], length, drop, Option, Some, true, false, not, option_map, is_some, IfOk, OnOk, OnErr, IsTrue};
     ghost use Rattle.request_reader.specs.Request.{More, is_begun, is_whole_head, used_by};
     ghost use Rattle.host_base.specs.declared.request.Request.{Request};
     ghost use Rattle.trace_model.specs.Readings.{headed, startable};
@@ -57,6 +57,7 @@ impl Incoming {
     pub fn new(alloc: Global, limits: &Limits) -> Self
         ensures knows { 2 ≤ limits.now.head → Knows result [] 0 }
         ensures limits { limits_of result ≡ limits.now }
+        ensures ready { is_ready result ≡ false }
     {
         Incoming {
             alloc,
@@ -75,6 +76,7 @@ impl Incoming {
             → OnOk result (Knows self.new (heard ++ bytes.now) taken) }
         ensures err { OnErr result (self.new ≡ self.old) }
         ensures limits { limits_of self.new ≡ limits_of self.old }
+        ensures ready { is_ready self.new ≡ is_ready self.old }
     {
         self.reader.feed(bytes)?;
         self.fresh = true;
@@ -139,6 +141,7 @@ impl Incoming {
             → IfOk result (λ body. HandsOut self.new bytes taken body) }
         ensures err { OnErr result (self.new ≡ self.old) }
         ensures limits { limits_of self.new ≡ limits_of self.old }
+        ensures ready { is_ready self.new ≡ is_ready self.old }
     {
         match self.reader.step()? {
             ReqStep::Whole(request) => {
@@ -190,7 +193,8 @@ impl Incoming {
 
     /// What a reply depends on, once the request was found ready.
     pub fn manner(&self) -> Option<Manner>
-        ensures { (bytes : List ℕ) (taken : ℕ) → Knows self.now bytes taken → is_looked_at self.now ≡ true
+        ensures ready { is_some result ≡ is_ready self.now }
+        ensures value { (bytes : List ℕ) (taken : ℕ) → Knows self.now bytes taken → is_looked_at self.now ≡ true
             → result ≡ option_map manner_of (startable (reading_of self.now bytes)) }
     {
         self.manner

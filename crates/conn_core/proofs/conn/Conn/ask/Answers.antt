@@ -12,4 +12,7 @@ returns-clause-gave g c n =
       marks = c.ask.ensures ∙ ap (λ (k : ℕ). noted c.args.self.now.marks (Out (WantClient k))) (sym c.c-number.ensures);
       peer_is = refl;
       child = λ ks w. w;
-    })
+      front = refl;
+      lost = λ l. l;
+      reading = λ r. r;
+    }) (λ e known. tt)

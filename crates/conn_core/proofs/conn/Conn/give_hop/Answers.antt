@@ -1,5 +1,4 @@
-use Rattle.std.proofs.Common.{refl, sym, ap, Some, ◌∙◌, ◌≡◌, ◌+◌, subst, arith, ℕ}
-use Rattle.conn_core.proofs.GaveLaws.{gave_after, gave_none}
+use Rattle.conn_core.proofs.GaveLaws.{gave_after, gave_none, put_back}
 use Rattle.conn_core.proofs.conn.Conn.give_hop.Goals as goal
 
 pub returns-in-Finishing-clause-gave : goal.returns-in-Finishing-clause-gave
@@ -7,3 +6,6 @@ returns-in-Finishing-clause-gave g c = gave_after c.take_stage.ensures.kept (c.g
 
 pub returns-in-Err-clause-gave : goal.returns-in-Err-clause-gave
 returns-in-Err-clause-gave g c = gave_after c.take_stage.ensures.kept (gave_none c.lose.ensures.kept)
+
+pub returns-in_default-clause-gave : goal.returns-in_default-clause-gave
+returns-in_default-clause-gave g c = gave_none (put_back c.take_stage.ensures.rest c.take_stage.ensures.stage c.put.ensures.value)

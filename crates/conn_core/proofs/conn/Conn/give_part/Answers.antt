@@ -1,7 +1,8 @@
-use Rattle.std.proofs.Common.{refl, sym, ap, Some, ◌∙◌}
-use Rattle.host_trace.specs.declared.items.Act.TheVariants.{Write, WantClient, Shut}
-use Rattle.conn_core.proofs.GaveLaws.{gave_after, gave_before, gave_none, gave_plain, gave_start, gave_then}
+use Rattle.std.proofs.Common.{refl}
+use Rattle.conn_core.proofs.GaveLaws.{gave_before, gave_write}
 use Rattle.conn_core.proofs.conn.Conn.give_part.Goals as goal
 
 pub returns-clause-gave : goal.returns-clause-gave
-returns-clause-gave g c n = gave_before (c.write-found.ensures.gave n) c.put.ensures.kept
+returns-clause-gave g c n =
+    gave_before (gave_write c.replace-text.result c.write-found.result c.args.self.now c.requires.may c.requires.open c.write-found.ensures.value c.write-found.ensures.told)
+    (c.put.ensures.kept refl)

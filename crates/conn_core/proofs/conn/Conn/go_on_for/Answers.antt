@@ -2,8 +2,11 @@ use Rattle.std.proofs.Common.{refl, sym, subst, ◌∙◌, ◌≡◌}
 use Rattle.host_base.specs.declared.site.Site.{Site}
 use Rattle.host_base.specs.SiteRules.{IsServed}
 use Rattle.conn_core.specs.Kept.{site_of}
-use Rattle.conn_core.proofs.GaveLaws.{gave_after, gave_before, gave_then}
+use Rattle.conn_core.proofs.GaveLaws.{gave_none, gave_then, kept_same}
 use Rattle.conn_core.proofs.conn.Conn.go_on_for.Goals as goal
+
+pub loop-turn-init : goal.loop-turn-init
+loop-turn-init g c = record { gave = gave_none (kept_same c.args.self.now); limit = refl }
 
 pub loop-turn-preserved : goal.loop-turn-preserved
 loop-turn-preserved g c = record {

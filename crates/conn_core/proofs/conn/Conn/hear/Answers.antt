@@ -4,5 +4,5 @@ use Rattle.conn_core.proofs.conn.Conn.hear.Goals as goal
 
 pub returns : goal.returns
 returns c = record {
-  heard = heard_by refl c.hear.ensures refl (λ ks w. w) c.hear_run.ensures.kept c.hear_own.ensures.kept c.settle.ensures.kept;
+  heard = heard_by c.hear.new.self c.hear.ensures c.hear_run.ensures.kept c.hear_run.ensures.settled c.hear_own.ensures c.settle.ensures;
 }

@@ -13,4 +13,7 @@ returns-clause-gave g c n =
       marks = c.shut.ensures c.args.why ∙ ap (λ (k : ℕ). noted c.args.self.now.marks (Out (Shut k c.args.why))) (sym c.c-number.ensures);
       peer_is = refl;
       child = λ ks w. w;
-    }) c.note_shut.ensures.kept)
+      front = refl;
+      lost = λ l. l;
+      reading = λ r. r;
+    }) c.note_shut.ensures.kept) (λ e known. tt)

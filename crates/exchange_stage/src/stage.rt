@@ -1,6 +1,6 @@
 // Where an exchange stands.
+use exchange_reply::LegReply;
 use host_base::{Bytes, Cause, Launch, Request, ScriptKind};
-use reply_stream::Stream;
 
 /// A hop whose script is started.
 #[derive(Drop)]
@@ -9,11 +9,9 @@ pub struct Leg {
     pub hop: u32,
     pub kind: ScriptKind,
     pub request: Request,
-    pub stream: Stream,
-    /// A Tick was heard that the stream wasn't told of.
+    pub reply: LegReply,
+    /// A Tick was heard that the reply wasn't told of.
     pub ticked: bool,
-    /// Where the reply has begun: whether it closes the connection.
-    pub closes: bool,
     /// What is to be written now of the reply.
     pub text: Bytes,
 }

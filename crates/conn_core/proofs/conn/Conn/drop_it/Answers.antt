@@ -1,0 +1,5 @@
+use Rattle.conn_core.proofs.GaveLaws.{gave_none, kept_same}
+use Rattle.conn_core.proofs.conn.Conn.drop_it.Goals as goal
+
+pub returns-else-is_live-clause-gave : goal.returns-else-is_live-clause-gave
+returns-else-is_live-clause-gave g c n = gave_none (kept_same c.args.self.now)

@@ -1,0 +1,4 @@
+pub mod Moves
+pub mod Front
+pub mod Hearing
+pub mod Laws
