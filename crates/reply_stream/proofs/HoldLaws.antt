@@ -224,11 +224,11 @@ joins asked told bytes old new is is_at asked_is stage_is joined =
     }
 
 -- .. and the search stands in it
-pub sought_joined : (held bytes : List ℕ) (stage : Stage) → IsSoughtIn held stage → IsSoughtIn (held ++ bytes) stage
-sought_joined held bytes (Waiting search) sought = searched-append held bytes search.start search.seen sought
-sought_joined held bytes Ready sought = tt
-sought_joined held bytes Settled sought = tt
-sought_joined held bytes (Going flow) sought = tt
+pub sought_joined : (held bytes : List ℕ) (stage : Stage) → is_holding stage ≡ true → IsSoughtIn held stage → IsSoughtIn (held ++ bytes) stage
+sought_joined held bytes (Waiting search) holding sought = searched-append held bytes search.start search.seen sought
+sought_joined held bytes Ready holding sought = tt
+sought_joined held bytes Settled holding sought = absurd (cc)
+sought_joined held bytes (Going flow) holding sought = absurd (cc)
 
 pub joined_looks : (asked : Asked) (told : List Told) (state : State) → Joins asked told state → most_kept < length state.held → Looks asked told state
 joined_looks asked told state at long =

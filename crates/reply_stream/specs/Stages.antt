@@ -83,12 +83,12 @@ pub record State : Type 0 where
   pub held : List ℕ
   pub stage : Stage
 
--- the search for the end of the header stands in what is held
+-- the search for the end of the header stands in what is held, and nothing is held of a reply that has begun
 abbrev pub IsSoughtIn : List ℕ → Stage → Type 0
 IsSoughtIn held (Waiting search) = IsSearched held search.start search.seen
 IsSoughtIn held Ready = Unit {0}
 IsSoughtIn held Settled = Unit {0}
-IsSoughtIn held (Going flow) = Unit {0}
+IsSoughtIn held (Going flow) = held ≡ []
 
 -- all of the output is held
 abbrev pub is_holding : Stage → Bool

@@ -6,6 +6,7 @@ use host_base::{Bytes, Cause, NoMemory, ScriptKind, Version};
 use std::alloc::Global;
 
 mod cuts;
+mod edges;
 mod long;
 
 // What is told, and what is then written.
@@ -406,30 +407,51 @@ fn is_ended(last: &Last, ended: Ended) -> bool {
     }
 }
 
+fn hear(
+    alloc: Global,
+    stream: &mut Stream,
+    piece: &'static str,
+    close: bool,
+    dated: bool,
+) -> Result<Bytes, NoMemory> {
+    let piece = Bytes::from_slice(alloc, piece.as_bytes())?;
+    stream.hear(piece, close, stamp_of(dated))
+}
+
+fn is_text(written: Result<Bytes, NoMemory>, text: &'static str) -> bool {
+    match written {
+        Ok(written) => written.as_slice() == text.as_bytes(),
+        Err(_) => false,
+    }
+}
+
+// Whether it is answered as its row says.
+fn is_told(alloc: Global, stream: &mut Stream, told: &Told, close: bool, dated: bool) -> bool {
+    match told {
+        Piece(piece, text) => is_text(hear(alloc, stream, piece, close, dated), text),
+        Tick(text) => is_text(stream.tick(close, stamp_of(dated)), text),
+    }
+}
+
 // Whether each thing that is told is answered as its row says, and the end too.
-fn is_answered(alloc: Global, row: &Row) -> Result<bool, NoMemory> {
+fn is_answered(alloc: Global, row: &Row) -> bool {
     let mut stream = Stream::new(alloc, row.0);
     for told in row.3.iter() {
-        let (written, expected) = match told {
-            Piece(piece, expected) => {
-                let piece = Bytes::from_slice(alloc, piece.as_bytes())?;
-                (stream.hear(piece, row.1, stamp_of(row.2))?, expected)
-            }
-            Tick(expected) => (stream.tick(row.1, stamp_of(row.2))?, expected),
-        };
-        if written.as_slice() != expected.as_bytes() {
-            return Ok(false);
+        if !is_told(alloc, &mut stream, told, row.1, row.2) {
+            return false;
         }
     }
-    Ok(is_ended(&stream.end(row.1, stamp_of(row.2))?, row.4))
+    match stream.end(row.1, stamp_of(row.2)) {
+        Ok(last) => is_ended(&last, row.4),
+        Err(_) => false,
+    }
 }
 
 #[test]
-fn rows(rt: HostRuntime) -> Result<(), NoMemory> {
+fn rows(rt: HostRuntime) {
     let mut number: usize = 0;
     for row in ROWS.iter() {
-        assert!(&rt; is_answered(rt.alloc(), row)?, "row {number}");
+        assert!(&rt; is_answered(rt.alloc(), row), "row {number}");
         number = number.saturating_add(1);
     }
-    Ok(())
 }

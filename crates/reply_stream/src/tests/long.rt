@@ -5,11 +5,7 @@ use host_base::{Bytes, Cause, NoMemory};
 use std::alloc::Global;
 
 // A text with so many `a` within it.
-type Filled = (&'static str, usize, &'static str);
-
-const NOTHING: Filled = ("", 0, "");
-
-const MARK: Filled = ("0\r\n\r\n", 0, "");
+pub type Filled = (&'static str, usize, &'static str);
 
 // What is asked, the output, what is written before its end, and at its end.
 const LONG: [(Asked, Filled, Filled, Filled); 11] = [
@@ -17,7 +13,7 @@ const LONG: [(Asked, Filled, Filled, Filled); 11] = [
     (
         GET,
         ("Content-Type: text/plain\n\n", 8166, ""),
-        NOTHING,
+        ("", 0, ""),
         (
             "HTTP/1.1 200 OK\r\nContent-Type: text/plain\r\nContent-Length: 8166\r\n\r\n",
             8166,
@@ -32,12 +28,12 @@ const LONG: [(Asked, Filled, Filled, Filled); 11] = [
             8167,
             "\r\n",
         ),
-        MARK,
+        ("0\r\n\r\n", 0, ""),
     ),
     (
         OLD,
         ("Content-Type: text/plain\n\n", 8166, ""),
-        NOTHING,
+        ("", 0, ""),
         (
             "HTTP/1.1 200 OK\r\nContent-Type: text/plain\r\nContent-Length: 8166\r\n\r\n",
             8166,
@@ -52,21 +48,21 @@ const LONG: [(Asked, Filled, Filled, Filled); 11] = [
             8167,
             "",
         ),
-        NOTHING,
+        ("", 0, ""),
     ),
     (
         HEAD,
         ("Content-Type: text/plain\n\n", 9000, ""),
         ("HTTP/1.1 200 OK\r\nContent-Type: text/plain\r\n\r\n", 0, ""),
-        NOTHING,
+        ("", 0, ""),
     ),
-    (RAW, ("", 8192, ""), NOTHING, ("", 8192, "")),
-    (RAW, ("", 8193, ""), ("", 8193, ""), NOTHING),
+    (RAW, ("", 8192, ""), ("", 0, ""), ("", 8192, "")),
+    (RAW, ("", 8193, ""), ("", 8193, ""), ("", 0, "")),
     // A header of 8,192 bytes, of 8,191 and of 8,192 with a byte after it.
     (
         GET,
         ("Content-Type: ", 8176, "\n\n"),
-        NOTHING,
+        ("", 0, ""),
         (
             "HTTP/1.1 200 OK\r\nContent-Type: ",
             8176,
@@ -76,7 +72,7 @@ const LONG: [(Asked, Filled, Filled, Filled); 11] = [
     (
         GET,
         ("Content-Type: ", 8175, "\n\nx"),
-        NOTHING,
+        ("", 0, ""),
         (
             "HTTP/1.1 200 OK\r\nContent-Type: ",
             8175,
@@ -91,13 +87,13 @@ const LONG: [(Asked, Filled, Filled, Filled); 11] = [
             8176,
             "\r\nTransfer-Encoding: chunked\r\n\r\n1\r\nx\r\n",
         ),
-        MARK,
+        ("0\r\n\r\n", 0, ""),
     ),
     // A redirect without a document.
     (
         GET,
         ("Location: http://x/\n\n", 9000, ""),
-        NOTHING,
+        ("", 0, ""),
         (
             "HTTP/1.1 302 Found\r\nLocation: http://x/\r\nContent-Length: 0\r\n\r\n",
             0,
@@ -115,7 +111,7 @@ const UNWRITTEN: [(Filled, Ended); 5] = [
     (("x\n\n", 9000, ""), Bad(Cause::HeaderLine)),
 ];
 
-fn filled(alloc: Global, text: Filled) -> Result<Vec<u8>, NoMemory> {
+pub fn filled(alloc: Global, text: Filled) -> Result<Vec<u8>, NoMemory> {
     let mut bytes = Vec::from_slice(alloc, text.0.as_bytes())?;
     for _ in 0..text.1 {
         bytes.push(b'a')?;
@@ -124,120 +120,162 @@ fn filled(alloc: Global, text: Filled) -> Result<Vec<u8>, NoMemory> {
     Ok(bytes)
 }
 
-fn hear(
-    alloc: Global,
-    stream: &mut Stream,
-    written: &mut Vec<u8>,
-    piece: &[u8],
-) -> Result<(), NoMemory> {
+fn hear(alloc: Global, stream: &mut Stream, piece: &[u8]) -> Result<Bytes, NoMemory> {
     let piece = Bytes::from_slice(alloc, piece)?;
-    let text = stream.hear(piece, false, None)?;
-    written.extend_from_slice(text.as_slice())?;
-    Ok(())
+    stream.hear(piece, false, None)
 }
 
-// Tells an output in a piece of `first` bytes and then in pieces of `size` bytes, and gives what is written.
-fn hear_all(
+// Adds what is written where a piece was told.
+fn push_heard(alloc: Global, stream: &mut Stream, written: &mut Vec<u8>, piece: &[u8]) -> bool {
+    match hear(alloc, stream, piece) {
+        Ok(text) => written.extend_from_slice(text.as_slice()).is_ok(),
+        Err(_) => false,
+    }
+}
+
+// Tells an output in a piece of `first` bytes and then in pieces of `size` bytes: what is written is this.
+fn is_written(
     alloc: Global,
     stream: &mut Stream,
     output: &[u8],
     cut: (usize, usize),
-) -> Result<Vec<u8>, NoMemory> {
+    due: &[u8],
+) -> bool {
     let mut written = Vec::new(alloc);
     let (first, rest) = output.split_at(cut.0.min(output.len()));
-    hear(alloc, stream, &mut written, first)?;
+    let mut right = push_heard(alloc, stream, &mut written, first);
     for piece in rest.chunks(cut.1.max(1)) {
-        hear(alloc, stream, &mut written, piece)?;
+        right = right && push_heard(alloc, stream, &mut written, piece);
     }
-    Ok(written)
+    right && written.as_slice() == due
 }
 
-fn is_long_row(
-    alloc: Global,
-    row: &(Asked, Filled, Filled, Filled),
-    output: &[u8],
-    cut: (usize, usize),
-) -> Result<bool, NoMemory> {
-    let mut stream = Stream::new(alloc, row.0);
-    let written = hear_all(alloc, &mut stream, output, cut)?;
-    let before = filled(alloc, row.2)?;
+// The texts of a row.
+#[derive(Drop)]
+struct Texts {
+    asked: Asked,
+    output: Vec<u8>,
+    before: Vec<u8>,
+    rest: Vec<u8>,
+}
+
+fn texts_of(alloc: Global, row: &(Asked, Filled, Filled, Filled)) -> Result<Texts, NoMemory> {
+    Ok(Texts {
+        asked: row.0,
+        output: filled(alloc, row.1)?,
+        before: filled(alloc, row.2)?,
+        rest: filled(alloc, row.3)?,
+    })
+}
+
+fn is_rest(last: &Last, due: &[u8]) -> bool {
+    match last {
+        Last::Written(text) => text.as_slice() == due,
+        Last::Hop(_) => false,
+        Last::Bad(_) => false,
+    }
+}
+
+fn is_long_row(alloc: Global, texts: &Texts, first: usize, size: usize) -> bool {
+    let mut stream = Stream::new(alloc, texts.asked);
+    let before = texts.before.as_slice();
+    let written = is_written(
+        alloc,
+        &mut stream,
+        texts.output.as_slice(),
+        (first, size),
+        before,
+    );
     let begun = stream.has_begun();
-    let rest = filled(alloc, row.3)?;
-    match stream.end(false, None)? {
-        Last::Written(text) => Ok(
-            written.as_slice() == before.as_slice()
-                && begun == !before.is_empty()
-                && text.as_slice() == rest.as_slice(),
-        ),
-        _ => Ok(false),
+    match stream.end(false, None) {
+        Ok(last) => written && begun == !before.is_empty() && is_rest(&last, texts.rest.as_slice()),
+        Err(_) => false,
     }
 }
 
 // Whether it is written so in single bytes, and cut in two at every 97th place and at the last ones.
-fn is_long_row_however_cut(
-    alloc: Global,
-    row: &(Asked, Filled, Filled, Filled),
-) -> Result<bool, NoMemory> {
-    let output = filled(alloc, row.1)?;
-    let len = output.len();
+fn is_long_row_however_cut(alloc: Global, texts: &Texts) -> bool {
+    let len = texts.output.len();
     for count in 0..len / 97 + 1 {
-        let cut = (count.saturating_mul(97), len);
-        if !is_long_row(alloc, row, output.as_slice(), cut)? {
-            return Ok(false);
+        if !is_long_row(alloc, texts, count.saturating_mul(97), len) {
+            return false;
         }
     }
     for before in 0..4 {
-        let cut = (len.saturating_sub(before), 1);
-        if !is_long_row(alloc, row, output.as_slice(), cut)? {
-            return Ok(false);
+        if !is_long_row(alloc, texts, len.saturating_sub(before), 1) {
+            return false;
         }
     }
-    is_long_row(alloc, row, output.as_slice(), (0, 1))
+    is_long_row(alloc, texts, 0, 1)
 }
 
-fn is_unwritten(
-    alloc: Global,
-    row: &(Filled, Ended),
-    cut: (usize, usize),
-) -> Result<bool, NoMemory> {
-    let mut stream = Stream::new(alloc, GET);
-    let output = filled(alloc, row.0)?;
-    let written = hear_all(alloc, &mut stream, output.as_slice(), cut)?;
-    Ok(written.is_empty() && !stream.has_begun() && is_ended(&stream.end(false, None)?, row.1))
+fn is_long(alloc: Global, row: &(Asked, Filled, Filled, Filled)) -> bool {
+    match texts_of(alloc, row) {
+        Ok(texts) => is_long_row_however_cut(alloc, &texts),
+        Err(_) => false,
+    }
 }
 
 #[test]
-fn long_outputs(rt: HostRuntime) -> Result<(), NoMemory> {
+fn long_outputs(rt: HostRuntime) {
     for row in LONG.iter() {
-        let right = is_long_row_however_cut(rt.alloc(), row)?;
-        assert!(&rt; right, "{} {}", row.1.0, row.1.1);
+        assert!(&rt; is_long(rt.alloc(), row), "{} {}", row.1.0, row.1.1);
     }
-    for row in UNWRITTEN.iter() {
-        for cut in [(0, 1), (0, 8192), (0, 10_000), (8191, 1)] {
-            assert!(&rt; is_unwritten(rt.alloc(), row, cut)?, "{} {}", row.0.0, row.0.1);
+}
+
+fn is_unwritten_as(alloc: Global, output: &[u8], ended: Ended, first: usize, size: usize) -> bool {
+    let mut stream = Stream::new(alloc, GET);
+    let written = is_written(alloc, &mut stream, output, (first, size), b"");
+    let begun = stream.has_begun();
+    match stream.end(false, None) {
+        Ok(last) => written && !begun && is_ended(&last, ended),
+        Err(_) => false,
+    }
+}
+
+fn is_unwritten(alloc: Global, row: &(Filled, Ended)) -> bool {
+    match filled(alloc, row.0) {
+        Ok(output) => {
+            is_unwritten_as(alloc, output.as_slice(), row.1, 0, 1)
+                && is_unwritten_as(alloc, output.as_slice(), row.1, 0, 8192)
+                && is_unwritten_as(alloc, output.as_slice(), row.1, 0, 10_000)
+                && is_unwritten_as(alloc, output.as_slice(), row.1, 8191, 1)
         }
+        Err(_) => false,
     }
-    Ok(())
+}
+
+#[test]
+fn long_outputs_of_which_nothing_is_written(rt: HostRuntime) {
+    for row in UNWRITTEN.iter() {
+        assert!(&rt; is_unwritten(rt.alloc(), row), "{} {}", row.0.0, row.0.1);
+    }
+}
+
+// Tells a piece: this is written.
+fn is_answered(stream: &mut Stream, piece: Vec<u8>, close: bool, due: &[u8]) -> bool {
+    match stream.hear(Bytes::from_vec(piece), close, None) {
+        Ok(text) => text.as_slice() == due,
+        Err(_) => false,
+    }
 }
 
 // A long document in one piece, one byte more, and the end.
 #[test]
 fn a_long_document(rt: HostRuntime) -> Result<(), NoMemory> {
-    let alloc = rt.alloc();
-    let mut stream = Stream::new(alloc, GET);
-    let output = filled(alloc, ("Content-Type: text/plain\n\n", 9000, ""))?;
-    let first = stream.hear(Bytes::from_vec(output), true, None)?;
-    let expected = filled(
-        alloc,
+    let output = filled(rt.alloc(), ("Content-Type: text/plain\n\n", 9000, ""))?;
+    let begun = filled(
+        rt.alloc(),
         (
             "HTTP/1.1 200 OK\r\nContent-Type: text/plain\r\nTransfer-Encoding: chunked\r\nConnection: close\r\n\r\n2328\r\n",
             9000,
             "\r\n",
         ),
     )?;
-    assert!(&rt; first.as_slice() == expected.as_slice());
-    let second = stream.hear(Bytes::from_slice(alloc, b"b")?, false, None)?;
-    assert_eq!(&rt; second.as_slice(), b"1\r\nb\r\n".as_slice());
+    let more = filled(rt.alloc(), ("b", 0, ""))?;
+    let mut stream = Stream::new(rt.alloc(), GET);
+    assert!(&rt; is_answered(&mut stream, output, true, begun.as_slice()));
+    assert!(&rt; is_answered(&mut stream, more, false, b"1\r\nb\r\n"));
     assert!(&rt; is_ended(&stream.end(false, None)?, Rest("0\r\n\r\n")));
     Ok(())
 }
