@@ -4,3 +4,4 @@ pub mod TurnLaws
 pub mod StatusLaws
 pub mod JoinLaws
 pub mod WordLaws
+pub mod ExplainLaws

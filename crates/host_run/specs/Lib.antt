@@ -8,4 +8,6 @@ pub mod Served
 pub mod Words
 pub mod Statuses
 pub mod Given
+pub mod Explains
+pub mod ExplainSteps
 pub mod SinkWords

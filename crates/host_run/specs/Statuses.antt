@@ -12,7 +12,7 @@ use Rattle.host_run.specs.Words.{SitePlace, ByScript, InFile, is_file, Form, Doe
 use Rattle.host_run.specs.declared.report.TheConstants.{HELP, VERSION}
 use Rattle.host_run.specs.declared.top.Status.{Status}
 use Rattle.host_run.specs.declared.top.Status.TheVariants.{Done, Usage, SiteRefused, SiteUnread, WorldRefused, Spent, ReportFault, NoMemory}
-use Rattle.host_run.specs.declared.words.Task.TheVariants.{Once, Check, Upgrade}
+use Rattle.host_run.specs.declared.words.Task.TheVariants.{Once, Check, Upgrade, Explain}
 
 -- ---- the site
 
@@ -96,11 +96,13 @@ IsCheckText stored place text = (site : Site) × (Says stored place (Ok site) ×
 abbrev pub IsUpgradeText : Option (List Stored) → SitePlace → List ℕ → Type 0
 IsUpgradeText stored place text = (site : Site) × (Says stored place (Ok site) × (site_said text ≡ Ok site))
 
+-- what `explain` puts is said beside the trace that it explains
 abbrev pub ReportsBy : Option (List Stored) → Option Form → Status → Option (List ℕ) → Option (List ℕ) → Type 0
 ReportsBy stored None status before after = after ≡ before
 ReportsBy stored (Some (Does Once place)) status before after = after ≡ before
 ReportsBy stored (Some (Does Check place)) status before after = PutsBy (IsCheckText stored place) status before after
 ReportsBy stored (Some (Does Upgrade place)) status before after = PutsBy (IsUpgradeText stored place) status before after
+ReportsBy stored (Some (Does Explain place)) status before after = Unit {0}
 ReportsBy stored (Some Help) status before after = PutsBy (λ text. text ≡ HELP.now) status before after
 ReportsBy stored (Some Version) status before after = PutsBy (λ text. text ≡ VERSION.now) status before after
 
@@ -126,6 +128,7 @@ reads_store None = false
 
 abbrev pub enters_world : Option Form → Bool
 enters_world (Some (Does Once place)) = true
+enters_world (Some (Does Explain place)) = true
 enters_world (Some (Does Check place)) = false
 enters_world (Some (Does Upgrade place)) = false
 enters_world (Some Help) = false
@@ -134,6 +137,7 @@ enters_world None = false
 
 abbrev pub writes_report : Option Form → Bool
 writes_report (Some (Does Once place)) = false
+writes_report (Some (Does Explain place)) = true
 writes_report (Some (Does Check place)) = true
 writes_report (Some (Does Upgrade place)) = true
 writes_report (Some Help) = true

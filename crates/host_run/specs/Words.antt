@@ -8,7 +8,7 @@ use Rattle.host_run.specs.declared.words.Command.TheVariants as Rust
 use Rattle.host_run.specs.declared.words.Place.{Place}
 use Rattle.host_run.specs.declared.words.Place.TheVariants as At
 use Rattle.host_run.specs.declared.words.Task.{Task}
-use Rattle.host_run.specs.declared.words.Task.TheVariants.{Once, Check, Upgrade}
+use Rattle.host_run.specs.declared.words.Task.TheVariants.{Once, Check, Upgrade, Explain}
 
 -- where a site is said
 pub data SitePlace : Type 0 where
@@ -67,13 +67,15 @@ abbrev pub task_of : List ℕ → Option Task
 task_of word =
     if bytes_eq word (codes "once") then Some Once
     else (if bytes_eq word (codes "check") then Some Check
-    else (if bytes_eq word (codes "upgrade") then Some Upgrade else None))
+    else (if bytes_eq word (codes "upgrade") then Some Upgrade
+    else (if bytes_eq word (codes "explain") then Some Explain else None)))
 
 -- the core of today serves the site of one script alone
 abbrev pub is_served_by : Task → SitePlace → Bool
 is_served_by Once place = not (is_file place)
 is_served_by Check place = true
 is_served_by Upgrade place = true
+is_served_by Explain place = true
 
 abbrev pub form_doing : Task → SitePlace → Option Form
 form_doing task place = if is_served_by task place then Some (Does task place) else None

@@ -2,6 +2,7 @@
 // in memory too.
 #![tactic(auto)]
 
+mod explaining;
 pub mod memory;
 mod report;
 mod serve;

@@ -17,6 +17,7 @@ pub const HELP: &str =
   cgihost once PATH=PROGRAM    serves one connection over standard input and output
   cgihost check SITE           reads the site and says how many scripts it has
   cgihost upgrade SITE         writes the site as a site file of version 2
+  cgihost explain SITE         reads one request and says what would be started for it, or how it is refused
   cgihost --help               writes this text
   cgihost --version            writes the version
 

@@ -2,6 +2,7 @@
 // event to its last, and runs by the top call.
 mod commands;
 mod drive;
+mod explaining;
 mod fits;
 mod heads;
 mod lines;

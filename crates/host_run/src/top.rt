@@ -2,10 +2,12 @@
 ghost use Rattle.std.specs.Prelude.{◌≡◌, ◌↔◌, None, Some, true, false};
 ghost use Rattle.host_base.specs.LimitRanges.{AreInRange};
 ghost use Rattle.host_base.specs.Outsides.{Rose};
+ghost use Rattle.host_run.specs.Explains.{ExplainsAt};
 ghost use Rattle.host_run.specs.Given.{GivesGood, GivesGoodBy, GivesOne, GivesBy};
 ghost use Rattle.host_run.specs.Statuses.{InOrder, ReadsBy, ReportsBy, SitesBy, enters_world, is_run, reads_store, writes_report};
 ghost use Rattle.host_run.specs.Words.{Does, form_of, is_served_by, place_at};
 
+use super::explaining::run_explain;
 use super::report::{HELP, VERSION, check, put, upgrade};
 use super::serve::{LoopEnd, serve_one};
 use super::sites::site_at;
@@ -19,7 +21,7 @@ use std::thread::Threads;
 /// How a run ended.
 #[derive(Drop, Debug)]
 pub enum Status {
-    /// The work was finished: Stop was heard and every child is settled.
+    /// The work was finished: what was to be reported is put, or Stop was heard and every child is settled.
     Done,
     /// The words of the command line have no form that there is.
     Usage,
@@ -29,7 +31,7 @@ pub enum Status {
     SiteUnread,
     /// The world could not be entered.
     WorldRefused,
-    /// All turns were used, and it was not both stopped and settled.
+    /// All turns were used, and it was not both stopped and settled; for `explain`, and the request had not ended.
     Spent,
     /// The report could not be written.
     ReportFault,
@@ -77,6 +79,7 @@ fn run_at<F: SiteStore, S: Sink, W: World>(
     ensures one { GivesBy (Some (Does task (place_at place.now))) result (W.given world.old) (W.given world.new) }
     ensures out { W.out world.new ≡ W.out world.old }
     ensures report { ReportsBy (F.stored store.old) (Some (Does task (place_at place.now))) result (S.written report.old) (S.written report.new) }
+    ensures explains { ExplainsAt (F.stored store.old) (Some (Does task (place_at place.now))) result (W.given world.old) (W.given world.new) (S.written report.old) (S.written report.new) }
     ensures unread { result ≡ Status.SiteUnread → Rose (F.faults store.old) (F.faults store.new) }
     ensures failed { result ≡ Status.WorldRefused → Rose (W.faults world.old) (W.faults world.new) }
     ensures fault { result ≡ Status.ReportFault → Rose (S.faults report.old) (S.faults report.new) }
@@ -93,6 +96,7 @@ fn run_at<F: SiteStore, S: Sink, W: World>(
         Task::Once => run_once(alloc, &site, world),
         Task::Check => check(alloc, &site, report),
         Task::Upgrade => upgrade(alloc, &site, report),
+        Task::Explain => run_explain(alloc, &site, report, world),
     }
 }
 
@@ -101,6 +105,8 @@ fn run_at<F: SiteStore, S: Sink, W: World>(
 ///
 /// - `once PATH=PROGRAM` serves one connection of the world. It writes no report.
 /// - `check SITE` reports how many scripts the site has, and `upgrade SITE` the site as a version 2 file.
+/// - `explain SITE` asks the client of one connection for its first request and reports what would be started for it, or
+///   how it would be refused. Nothing is started, and nothing is written to the client.
 /// - `--help` and `--version` report what they say.
 ///
 /// No thread is started.
@@ -118,6 +124,7 @@ pub fn run<R: Threads + Sync, F: SiteStore, S: Sink, W: World>(
     ensures one { GivesBy (form_of words.now) result (W.given world.old) (W.given world.new) }
     ensures out { W.out world.new ≡ W.out world.old }
     ensures report { ReportsBy (F.stored store.old) (form_of words.now) result (S.written report.old) (S.written report.new) }
+    ensures explains { ExplainsAt (F.stored store.old) (form_of words.now) result (W.given world.old) (W.given world.new) (S.written report.old) (S.written report.new) }
     ensures unread { result ≡ Status.SiteUnread → Rose (F.faults store.old) (F.faults store.new) }
     ensures failed { result ≡ Status.WorldRefused → Rose (W.faults world.old) (W.faults world.new) }
     ensures fault { result ≡ Status.ReportFault → Rose (S.faults report.old) (S.faults report.new) }

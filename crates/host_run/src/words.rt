@@ -10,6 +10,7 @@ pub enum Task {
     Once,
     Check,
     Upgrade,
+    Explain,
 }
 
 /// Where a site is said.
@@ -74,6 +75,8 @@ fn task_of(word: &str) -> Option<Task>
         Some(Task::Check)
     } else if word == "upgrade" {
         Some(Task::Upgrade)
+    } else if word == "explain" {
+        Some(Task::Explain)
     } else {
         None
     }

@@ -184,6 +184,7 @@ fn the_help_names_what_there_is(rt: HostRuntime) -> Result<(), Fail> {
         "once",
         "check SITE",
         "upgrade SITE",
+        "explain SITE",
         "--help",
         "--version",
         "  7  ",

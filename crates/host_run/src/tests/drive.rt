@@ -29,6 +29,9 @@ pub const NOT_BUILT: &[u8] =
 pub enum Heard<'t> {
     Accepted,
     Request(&'t [u8]),
+    Eof,
+    Gone,
+    NoRoom,
     Started,
     Output(&'t [u8]),
     ChildEof,
@@ -57,6 +60,9 @@ pub fn event_of(alloc: Global, heard: Heard) -> Result<Event, NoMemory> {
             c: 0,
             bytes: Bytes::from_slice(alloc, bytes)?,
         },
+        Heard::Eof => Event::ClientEof { c: 0 },
+        Heard::Gone => Event::ClientGone { c: 0 },
+        Heard::NoRoom => Event::NoRoom { c: 0 },
         Heard::Started => Event::Started { k: 0 },
         Heard::Output(bytes) => Event::ChildBytes {
             k: 0,

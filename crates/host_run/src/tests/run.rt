@@ -175,6 +175,8 @@ fn words_of_no_form(rt: HostRuntime) -> Result<(), Fail> {
         &["check", "x=/bin/cat"],
         &["upgrade"],
         &["upgrade", "site", "more"],
+        &["explain"],
+        &["explain", "x=/bin/cat"],
         &["help"],
         &["--help", "site"],
         &["once", "--version"],
