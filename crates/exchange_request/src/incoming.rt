@@ -215,6 +215,7 @@ impl Incoming {
     /// Whether a reply to it has no body, ready or not (RFC 9110 9.3.2).
     pub fn is_bare(&self) -> Result<bool, NoMemory>
         ensures value { IfOk result (λ bare. bare ≡ bare_of self.now) }
+        ensures memory { OnErr result (is_ready self.now ≡ false) }
         ensures ready { (bytes : List ℕ) (taken : ℕ) → Knows self.now bytes taken → is_looked_at self.now ≡ true → is_ready self.now ≡ true
             → bare_of self.now ≡ is_bare_of (reading_of self.now bytes) }
     {
