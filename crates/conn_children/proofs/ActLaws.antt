@@ -28,7 +28,7 @@ use Rattle.conn_laws.specs.Quiet.{is_plain}
 use Rattle.conn_children.specs.Setting.{setting}
 use Rattle.conn_children.specs.Legs.{children_of_legs}
 use Rattle.conn_children.specs.Children.{KnowsLeg, SettledLeg, HeldAs, KnowsRuns, KnowsChildren, NoMore, dropped}
-use Rattle.conn_children.specs.Laws.{spares_children}
+use Rattle.conn_laws.specs.Form.{is_to_connection}
 use Rattle.conn_children.proofs.SettingLaws.{still}
 use Rattle.conn_children.proofs.SpentLaws.{dropped_twice}
 use Rattle.conn_children.proofs.ItemLaws.{all_map, unnamed_push, leg_noted, settled_leg, last_push}
@@ -63,7 +63,7 @@ apart_all P Q k (leg ∷ older) none f a =
 
 -- ---- acts that spare the children
 
-pub spared : (act : Act) → spares_children act ≡ true → (k : ℕ) → names_child k (Out act) ≡ false
+pub spared : (act : Act) → is_to_connection act ≡ true → (k : ℕ) → names_child k (Out act) ≡ false
 spared (Start k c j hop launch) s j' = absurd (false≢true s)
 spared (Feed k bytes) s j = absurd (false≢true s)
 spared (EndInput k) s j = absurd (false≢true s)
@@ -72,11 +72,11 @@ spared (Kill k) s j = absurd (false≢true s)
 spared (Release k) s j = absurd (false≢true s)
 spared act s j = refl
 
-pub starts_none : (c : ℕ) (act : Act) → spares_children act ≡ true → child_started c (Out act) ≡ []
+pub starts_none : (c : ℕ) (act : Act) → is_to_connection act ≡ true → child_started c (Out act) ≡ []
 starts_none c (Start k d j hop launch) s = absurd (false≢true s)
 starts_none c act s = refl
 
-pub unconcerned : (c k : ℕ) (act : Act) → spares_children act ≡ true → is_plain act ≡ true → concerns c k (Out act) ≡ false
+pub unconcerned : (c k : ℕ) (act : Act) → is_to_connection act ≡ true → is_plain act ≡ true → concerns c k (Out act) ≡ false
 unconcerned c k (Shut d why) s p = go (c == d) (is_no_memory why) p
   where
     go : (mine memory : Bool) → not memory ≡ true → (false || (mine && memory || false)) ≡ false
@@ -99,7 +99,7 @@ module _ (More Then : View → Type 0) (site : Site) (c : ℕ) (e : Exchange) (t
   no_runs : (ls : List Leg) (act : Act) (early later : Bool) → child_started c (Out act) ≡ [] → KnowsRuns More site c e early ls None → KnowsRuns Then site c (pushed e (Out act)) later ls None
   no_runs ls act early later none k = (k.0, children-push e.items (Out act) c ∙ (ap (λ l. children e.items c ++ l) none ∙ (append-nil _ ∙ k.1)))
 
-  pub runs_spared : (early : Bool) (ls : List Leg) (run : Option View) (act : Act) → spares_children act ≡ true → is_plain act ≡ true → Stays More Then c act
+  pub runs_spared : (early : Bool) (ls : List Leg) (run : Option View) (act : Act) → is_to_connection act ≡ true → is_plain act ≡ true → Stays More Then c act
       → KnowsRuns More site c e early ls run → KnowsRuns Then site c (pushed e (Out act)) early ls run
   runs_spared early ls None act s p stays k = no_runs ls act early early (starts_none c act s) k
   runs_spared early ls (Some held) act s p stays k =
@@ -167,7 +167,7 @@ runs_lost More site c e early ls (Some held) k = record {
 -- ---- the laws
 
 pub others_known : (site : Site) (c : ℕ) (e : Exchange) (early : Bool) (next : ℕ) (ls : List Leg) (run : Option View) (act : Act) → 2 ≤ site.limits.head
-    → spares_children act ≡ true → is_plain act ≡ true → KnowsChildren site c e early next ls run → KnowsChildren site c (pushed e (Out act)) early next ls run
+    → is_to_connection act ≡ true → is_plain act ≡ true → KnowsChildren site c e early next ls run → KnowsChildren site c (pushed e (Out act)) early next ls run
 others_known site c e early next ls run act two s p k = record {
   fresh = fresh_act e act next (λ j le. spared act s j) k.fresh;
   runs = runs_spared NoMore NoMore site c e two early ls run act s p (λ v other settled more. tt) k.runs;

@@ -17,14 +17,14 @@ use Rattle.child_core.proofs.CallLaws.{memory-is}
 use Rattle.child_core.proofs.TellLaws.{noted-other}
 use Rattle.trace_model.specs.Answer.{legs}
 use Rattle.trace_model.specs.Exchange.{Exchange, pushed, all_of}
-use Rattle.trace_model.specs.Exchanges.{ended_by, has_ended, next_by}
+use Rattle.trace_model.specs.Exchanges.{following, has_ended}
 use Rattle.trace_model.specs.Legs.{Leg, run_of}
 use Rattle.conn_laws.specs.Quiet.{is_plain}
 use Rattle.conn_children.specs.Setting.{setting}
 use Rattle.conn_children.specs.Children.{HeldAs, KnowsLast, KnowsRuns, dropped}
-use Rattle.conn_children.specs.Laws.{spares_children}
-use Rattle.conn_children.specs.Step.{Dealt, Turn, LastIs, LegOver, LegsOver, DealsWith, legs_by, run_by}
-use Rattle.conn_children.specs.StepLaws.{may_lose}
+use Rattle.conn_laws.specs.Form.{is_to_connection}
+use Rattle.conn_children.specs.Step.{Dealt, Turn, LastIs, LegOver, LegsOver, DealsWith}
+use Rattle.conn_children.specs.Moves.{may_lose}
 use Rattle.conn_children.proofs.ItemLaws.{all_map, all_and}
 use Rattle.conn_children.proofs.ActLaws.{Stays, spared, unconcerned, fresh_act, runs_spared, runs_shut, runs_lost}
 use Rattle.conn_children.proofs.DueLaws.{unrefused}
@@ -64,7 +64,7 @@ last_other heard acts a turn (Some v) other l = (counted_push heard acts a v (ot
 
 -- ---- acts that spare the children
 
-spared_stays : (heard : List Item) (acts : List Act) (c : ℕ) (a : Act) → spares_children a ≡ true → is_plain a ≡ true → Stays (Dealt heard acts) (Dealt heard (acts ++ a ∷ [])) c a
+spared_stays : (heard : List Item) (acts : List Act) (c : ℕ) (a : Act) → is_to_connection a ≡ true → is_plain a ≡ true → Stays (Dealt heard acts) (Dealt heard (acts ++ a ∷ [])) c a
 spared_stays heard acts c a s p v other settled d =
     subst (Dealt heard (acts ++ a ∷ [])) (sym (noted-other c v (Out a) (unconcerned c v.number a s p))) (dealt_other heard acts a v other d)
 
@@ -77,7 +77,7 @@ shut_stays heard acts c v other settled d =
     })
 
 module _ (site : Site) (c : ℕ) (heard : List Item) (acts : List Act) (e : Exchange) (over : List Exchange) where
-  pub deals_spared : (early : Bool) (turn : Turn) (next : ℕ) (ls : List Leg) (run : Option View) (a : Act) → 2 ≤ site.limits.head → spares_children a ≡ true → is_plain a ≡ true
+  pub deals_spared : (early : Bool) (turn : Turn) (next : ℕ) (ls : List Leg) (run : Option View) (a : Act) → 2 ≤ site.limits.head → is_to_connection a ≡ true → is_plain a ≡ true
       → DealsWith site c heard acts e over early turn next ls run → DealsWith site c heard (acts ++ a ∷ []) (pushed e (Out a)) over early turn next ls run
   deals_spared early turn next ls run a two s p k = record {
     items = items_push e heard acts a k.items;
@@ -129,16 +129,9 @@ module _ (site : Site) (c : ℕ) (heard : List Item) (acts : List Act) (e : Exch
       (λ d. all_map (LegOver site c heard acts e.before d) (LegOver site c heard acts (e.before ++ more) d) (legs site c d)
       (λ leg o. record { named = list_any-append (names_child leg.child) e.before more ∙ or_left _ _ o.named; good = o.good })) ended
 
-  pub deals_flip : (early : Bool) (turn : Turn) (next : ℕ) (ls : List Leg) (run : Option View) → DealsWith site c heard acts e over early turn next ls run → (ends : Bool) → has_ended site c e ≡ ends
-      → DealsWith site c heard acts (next_by site c e ends) (over ++ ended_by e ends) early turn next (legs_by ends ls) (run_by ends run)
-  deals_flip early turn next ls run k false is = record {
-    items = k.items;
-    fresh = k.fresh;
-    runs = k.runs;
-    last = k.last;
-    ended = subst (AllByRecursion (LegsOver site c heard acts e.before)) (sym (append-nil over)) k.ended;
-  }
-  deals_flip early turn next ls run k true is = record {
+  pub deals_followed : (early later : Bool) (turn other : Turn) (next : ℕ) (ls : List Leg) (run : Option View) → has_ended site c e ≡ true → DealsWith site c heard acts e over early turn next ls run
+      → DealsWith site c heard acts (following site c e) (over ++ e ∷ []) later other next [] None
+  deals_followed early later turn other next ls run is k = record {
     items = append-nil (all_of e) ∙ k.items;
     fresh = λ j le. ap (list_any (names_child j)) (append-nil (all_of e)) ∙ k.fresh j le;
     runs = (refl, refl);

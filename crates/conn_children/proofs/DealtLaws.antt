@@ -23,7 +23,7 @@ use Rattle.child_core.specs.Walk.{Deserved, MayAct}
 use Rattle.child_core.proofs.ActLaws.{acted-deserved, acted-rest}
 use Rattle.child_core.proofs.WordLaws.{contra, end_input_names, kill_names, output_names, want_names}
 use Rattle.conn_children.specs.Step.{Counted, Turn, waiting, begun, served, TurnIs, was}
-use Rattle.conn_children.specs.StepLaws.{may_lose}
+use Rattle.conn_children.specs.Moves.{may_lose}
 
 -- ---- counts
 

@@ -1,12 +1,10 @@
 -- Draining the output of a run changes nothing else, and a new run to which its input was offered.
-use Rattle.std.proofs.Common.{◌≡◌, ℕ, Bool, true, false, List, [], ◌∷◌, ◌++◌, Some, refl, ap, ◌∙◌}
+use Rattle.std.proofs.Common.{◌≡◌, ℕ, Bool, true, false, List, [], ◌∷◌, Some, refl, ap, ◌∙◌}
 use Rattle.std.specs.Prelude.{not, ◌&&◌, is_some}
 use Rattle.host_base.specs.declared.site.ScriptKind.{ScriptKind}
 use Rattle.host_base.specs.declared.site.Site.{Site}
 use Rattle.host_trace.specs.declared.items.Act.{Act}
-use Rattle.host_trace.specs.declared.items.Event.{Event}
 use Rattle.host_trace.specs.declared.items.Item.{Item}
-use Rattle.host_trace.specs.declared.items.Item.TheVariants.{In}
 use Rattle.host_trace.specs.First.{or_else}
 use Rattle.child_core.specs.declared.ending.Ending.TheVariants.{Dropped}
 use Rattle.child_core.specs.declared.ending.Outcome.TheVariants as Ended
@@ -19,7 +17,7 @@ use Rattle.trace_model.specs.Exchange.{Exchange}
 use Rattle.trace_model.specs.Legs.{Leg}
 use Rattle.conn_children.specs.Setting.{setting}
 use Rattle.conn_children.specs.Children.{HeldAs, KnowsLeg, KnowsLast, KnowsChildren, NoMore}
-use Rattle.conn_children.specs.Step.{Counted, Turn, waiting, begun, served, TurnIs, StepKnows}
+use Rattle.conn_children.specs.Step.{Counted, Dealt, Turn, waiting, begun, served, TurnIs, DealsWith}
 
 drained_known : (early : Bool) (s : Setting) (v : View) (L : List Item) → Knows early s v L → Knows early s (drained v) L
 drained_known early s v L k = record {
@@ -103,13 +101,13 @@ pub drains_known : (site : Site) (c : ℕ) (e : Exchange) (early : Bool) (next :
     → KnowsChildren site c e early next ls (Some v) → KnowsChildren site c e early next ls (Some (drained v))
 drains_known site c e early next ls v k = record { fresh = k.fresh; runs = drained_last NoMore site c e early ls v k.runs }
 
-pub steps_drain : (site : Site) (c : ℕ) (L : List Item) (event : Event) (acts : List Act) (early : Bool) (turn : Turn) (next : ℕ) (ls : List Leg) (v : View)
-    → StepKnows site c L event acts early turn next ls (Some v) → StepKnows site c L event acts early turn next ls (Some (drained v))
-steps_drain site c L event acts early turn next ls v k = record {
+pub deals_drained : (site : Site) (c : ℕ) (heard : List Item) (acts : List Act) (e : Exchange) (over : List Exchange) (early : Bool) (turn : Turn) (next : ℕ) (ls : List Leg) (v : View)
+    → DealsWith site c heard acts e over early turn next ls (Some v) → DealsWith site c heard acts e over early turn next ls (Some (drained v))
+deals_drained site c heard acts e over early turn next ls v k = record {
   items = k.items;
   fresh = k.fresh;
-  runs = drained_last _ site c _ early ls v k.runs;
-  last = (drained_counted (L ++ In event ∷ []) acts v k.last.0, drained_turn (L ++ In event ∷ []) turn v k.last.1);
+  runs = drained_last (Dealt heard acts) site c e early ls v k.runs;
+  last = (drained_counted heard acts v k.last.0, drained_turn heard turn v k.last.1);
   ended = k.ended;
 }
 

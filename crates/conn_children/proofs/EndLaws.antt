@@ -21,8 +21,8 @@ use Rattle.trace_model.specs.Exchanges.{current, ended_after}
 use Rattle.trace_model.specs.Legs.{Leg, run_of}
 use Rattle.conn_children.specs.Legs.{SameRun, SameRuns}
 use Rattle.conn_children.specs.Children.{SettledLeg, KnowsRuns}
-use Rattle.conn_children.specs.Step.{Dealt, Turn, waiting, begun, served, TurnIs, LastIs, LegOver, LegsOver, StepKnows, was}
-use Rattle.conn_children.specs.StepLaws.{now, EndsAt}
+use Rattle.conn_children.specs.Step.{Dealt, Turn, waiting, begun, served, TurnIs, LastIs, LegOver, LegsOver, DealsWith, was}
+use Rattle.conn_children.specs.Moves.{EndsAt}
 use Rattle.conn_children.proofs.ItemLaws.{all_map, all_and}
 use Rattle.conn_children.proofs.KnowLaws.{legs_known}
 use Rattle.conn_children.proofs.DealtLaws.{Apart, untouched_fair, settled_fair, settled_rests, unstarted_rests, decided_rests, decided_fair}
@@ -76,13 +76,14 @@ module _ (site : Site) (c : ℕ) (e : Exchange) (heard : List Item) (acts : List
       → AllByRecursion Good (legs site c e)
   legs_good turn ls run k l at = of_runs ls (legs site c e) (legs_known (Dealt heard acts) site c e false ls run k) (runs_good turn ls run k l at)
 
-pub steps_end_well : (site : Site) (c : ℕ) (L : List Item) (event : Event) (acts : List Act) (turn : Turn) (next : ℕ) (ls : List Leg) (run : Option View)
-    → StepKnows site c L event acts false turn next ls run → EndsAt (has_room c (after_step L event acts)) turn run → ChildrenGood site c (step_of L event acts)
-steps_end_well site c L event acts turn next ls run k at =
+pub end_well : (site : Site) (c : ℕ) (L : List Item) (event : Event) (acts : List Act) (turn : Turn) (next : ℕ) (ls : List Leg) (run : Option View)
+    → DealsWith site c (L ++ In event ∷ []) acts (current site c (after_step L event acts)) (ended_after site c (current site c L) (In event ∷ map Out acts)) false turn next ls run
+    → EndsAt (has_room c (after_step L event acts)) turn run → ChildrenGood site c (step_of L event acts)
+end_well site c L event acts turn next ls run k at =
     let room : Bool = has_room c (after_step L event acts) in
     let heard : List Item = L ++ In event ∷ [] in
     let over : List Exchange = ended_after site c (current site c L) (In event ∷ map Out acts) in
-    let e : Exchange = now site c L event acts in
+    let e : Exchange = current site c (after_step L event acts) in
     all_and (LegsGood site c (step_of L event acts)) over (e ∷ [])
     (all_map (LegsOver site c heard acts e.before) (LegsGood site c (step_of L event acts)) over
     (λ d. all_map (LegOver site c heard acts e.before d) (λ leg. ChildGood (run_of site c d leg) room heard acts d.items) (legs site c d) (λ leg o. o.good room)) k.ended)

@@ -89,7 +89,7 @@ led_on site c e x older leg two begun l =
 
 -- ---- the Starts
 
-no_child : (c j hop : ℕ) (x : Item) → child_started c x ≡ [] → child_of c j hop x ≡ []
+pub no_child : (c j hop : ℕ) (x : Item) → child_started c x ≡ [] → child_of c j hop x ≡ []
 no_child c j hop (Out (Start k d i h launch)) none = go (c == d) (j == i) (hop == h) none
   where
     go : (mine same_exchange same_hop : Bool) → (if mine then k ∷ [] else []) ≡ [] → (if mine && same_exchange && same_hop then k ∷ [] else []) ≡ []

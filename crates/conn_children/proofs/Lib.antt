@@ -17,8 +17,8 @@ pub mod OverLaws
 pub mod DealLaws
 pub mod ServeLaws
 pub mod BeginLaws
-pub mod StepKnowLaws
 pub mod EndLaws
 pub mod OutputLaws
 pub mod DrainLaws
+pub mod MoveLaws
 pub mod WholeLaws

@@ -15,8 +15,8 @@ use Rattle.child_core.specs.declared.ending.Ending.TheVariants.{Dropped}
 use Rattle.child_core.specs.Calls.{ended, is_settled}
 use Rattle.child_core.specs.View.{View}
 use Rattle.trace_model.specs.Answer.{answer, answer_at, undecided, running, stage, legs}
-use Rattle.trace_model.specs.Exchange.{Exchange, first_exchange, continue_part, final, pushed}
-use Rattle.trace_model.specs.Exchanges.{ends_by, following, has_ended, current, current_after, next_by}
+use Rattle.trace_model.specs.Exchange.{Exchange, continue_part, final}
+use Rattle.trace_model.specs.Exchanges.{ends_by, has_ended}
 use Rattle.trace_model.specs.Legs.{Leg, run_of}
 use Rattle.trace_model.specs.Standing.{stands_whole}
 use Rattle.conn_laws.proofs.EndLaws.{not_whole}
@@ -56,27 +56,15 @@ unwhole site c e part = go (has_unsettled e.items c)
     go true = refl
     go false = part
 
--- one without items has not, and so the one that goes on has not
+-- one without items has not
 nothing_left : (n : ℕ) → drop {A = ℕ} n [] ≡ []
 nothing_left zero = refl
 nothing_left (suc n) = refl
 
-new_unended : (site : Site) (c : ℕ) (e : Exchange) → e.items ≡ [] → has_ended site c e ≡ false
+pub new_unended : (site : Site) (c : ℕ) (e : Exchange) → e.items ≡ [] → has_ended site c e ≡ false
 new_unended site c e none =
     let unwritten : final site c e ≡ [] = ap (λ items. drop (length (continue_part site c e)) (client_out items c)) none ∙ nothing_left (length (continue_part site c e)) in
     unwhole site c e ((not_whole site c e).unwritten unwritten)
-
-after_unended : (site : Site) (c : ℕ) (e : Exchange) (L : List Item) → has_ended site c e ≡ false → has_ended site c (current_after site c e L) ≡ false
-after_unended site c e [] not_yet = not_yet
-after_unended site c e (x ∷ L) not_yet = go (has_ended site c (pushed e x)) refl (λ d not_it. after_unended site c d L not_it)
-  where
-    go : (b : Bool) → has_ended site c (pushed e x) ≡ b → ((d : Exchange) → has_ended site c d ≡ false → has_ended site c (current_after site c d L) ≡ false)
-        → has_ended site c (current_after site c (next_by site c (pushed e x) b) L) ≡ false
-    go true is later = later (following site c (pushed e x)) (new_unended site c (following site c (pushed e x)) refl)
-    go false is later = later (pushed e x) is
-
-pub current_unended : (site : Site) (c : ℕ) (L : List Item) → has_ended site c (current site c L) ≡ false
-current_unended site c L = after_unended site c first_exchange L (new_unended site c first_exchange refl)
 
 module _ (More : View → Type 0) (site : Site) (c : ℕ) (e : Exchange) (early : Bool) (ls : List Leg) (held : View) (k : KnowsLast More site c e early ls held) (is : has_ended site c e ≡ true) where
   -- where it has ended its last run is decided

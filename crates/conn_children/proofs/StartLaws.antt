@@ -1,6 +1,6 @@
 -- The Start of the next hop's child.
 use Rattle.std.proofs.Common.{◌≡◌, ◌≤◌, ℕ, zero, suc, ◌+◌, Bool, true, false, List, [], ◌∷◌, ◌++◌, Option, Some, None, refl, sym, ap, subst, ◌∙◌, arith, length, add-zero, inl, inr}
-use Rattle.std.specs.Prelude.{if◌then◌else◌, ◌&&◌, ◌||◌, ◌==◌}
+use Rattle.std.specs.Prelude.{if◌then◌else◌, ◌||◌, ◌==◌}
 use Rattle.std.specs.List.{list_any, AllByRecursion}
 use Rattle.std.proofs.lemmas.Bool.{cases_Bool, false≢true, or_parts, or_from, eq-eqb, eqb-true, ne_eqb}
 use Rattle.std.proofs.lemmas.List.Folds.{list_any-append}
@@ -12,7 +12,7 @@ use Rattle.host_trace.specs.declared.items.Act.TheVariants.{Start}
 use Rattle.host_trace.specs.declared.items.Item.{Item}
 use Rattle.host_trace.specs.declared.items.Item.TheVariants.{Out}
 use Rattle.host_trace.specs.Decider.{is_websocket}
-use Rattle.host_trace.specs.Kinds.{names_child, child_of, child_started, is_stop}
+use Rattle.host_trace.specs.Kinds.{names_child, child_started, is_stop}
 use Rattle.host_trace.specs.Projections.{children, children_of, stopped}
 use Rattle.host_trace.proofs.ProjectionLaws.{children-push}
 use Rattle.own_traces.specs.Whose.{has}
@@ -35,7 +35,7 @@ use Rattle.conn_children.specs.Legs.{children_of_legs, ByHop, SameRuns, Led}
 use Rattle.conn_children.specs.Children.{KnowsLeg, SettledLeg, KnowsLast, KnowsRuns, KnowsChildren, NoMore, is_over}
 use Rattle.conn_children.specs.Laws.{MayStart}
 use Rattle.conn_children.proofs.SettingLaws.{still}
-use Rattle.conn_children.proofs.LegLaws.{all_trans, only_bodies, same_length, by_hop_start, by_hop_later, children-last}
+use Rattle.conn_children.proofs.LegLaws.{no_child, all_trans, only_bodies, same_length, by_hop_start, by_hop_later, children-last}
 use Rattle.conn_children.proofs.SpentLaws.{spent_begun}
 use Rattle.conn_children.proofs.ItemLaws.{all_and, unnamed_push}
 use Rattle.conn_children.proofs.ActLaws.{Stays, older_act, apart_all}
@@ -50,14 +50,6 @@ left_none (x ∷ xs) ys e = absurd (cc)
 right_none : (xs ys : List ℕ) → xs ++ ys ≡ [] → ys ≡ []
 right_none [] ys e = e
 right_none (x ∷ xs) ys e = absurd (cc)
-
-no_child : (c j hop : ℕ) (x : Item) → child_started c x ≡ [] → child_of c j hop x ≡ []
-no_child c j hop (Out (Start k d i h launch)) none = go (c == d) (j == i) (hop == h) none
-  where
-    go : (mine same_exchange same_hop : Bool) → (if mine then k ∷ [] else []) ≡ [] → (if mine && same_exchange && same_hop then k ∷ [] else []) ≡ []
-    go true a b e = absurd (cc)
-    go false a b e = refl
-no_child c j hop x none = refl
 
 pub no_hops : (c j hop : ℕ) (items : List Item) → children items c ≡ [] → children_of items c j hop ≡ []
 no_hops c j hop [] none = refl

@@ -6,7 +6,7 @@ use Rattle.host_base.specs.declared.site.Mapped.{Mapped}
 use Rattle.host_base.specs.declared.site.ScriptKind.{ScriptKind}
 use Rattle.host_base.specs.declared.site.Site.{Site}
 use Rattle.host_trace.specs.declared.items.Act.{Act}
-use Rattle.host_trace.specs.declared.items.Act.TheVariants.{WantClient, Write, Shut, Start, Feed, EndInput, WantChild, Kill, Release, Upgrade, Says, CloseWs}
+use Rattle.host_trace.specs.declared.items.Act.TheVariants.{Shut, Start}
 use Rattle.host_trace.specs.declared.items.Event.{Event}
 use Rattle.host_trace.specs.declared.items.Item.{Item}
 use Rattle.host_trace.specs.declared.items.Item.TheVariants.{In, Out}
@@ -32,6 +32,7 @@ use Rattle.trace_model.specs.Standing.{stands_whole}
 use Rattle.trace_model.specs.Legs.{Leg, leg_of, run_of, offered_at}
 use Rattle.trace_model.specs.Places.{kind_of, place_of}
 use Rattle.conn_laws.specs.Ends.{IsLastChild}
+use Rattle.conn_laws.specs.Form.{is_to_connection}
 use Rattle.conn_laws.specs.Hops.{StillReaches}
 use Rattle.conn_laws.specs.Quiet.{is_plain}
 use Rattle.conn_children.specs.Setting.{setting}
@@ -64,25 +65,10 @@ EventsAreKnown = (site : Site) (c : ℕ) (e : Exchange) (next : ℕ) (ls : List 
 
 -- ---- acts
 
--- the act is given to the connection alone
-abbrev pub spares_children : Act → Bool
-spares_children (WantClient c) = true
-spares_children (Write c bytes) = true
-spares_children (Shut c why) = true
-spares_children (Start k c j hop launch) = false
-spares_children (Feed k bytes) = false
-spares_children (EndInput k) = false
-spares_children (WantChild k) = false
-spares_children (Kill k) = false
-spares_children (Release k) = false
-spares_children (Upgrade c rest) = true
-spares_children (Says c texts) = true
-spares_children (CloseWs c code) = true
-
--- Such an act changes nothing, unless it is a Shut for want of memory.
+-- An act on the connection alone changes nothing, unless it is a Shut for want of memory.
 abbrev pub OtherActsAreKnown : Type 0
 OtherActsAreKnown = (site : Site) (c : ℕ) (e : Exchange) (early : Bool) (next : ℕ) (ls : List Leg) (run : Option View) (act : Act) → 2 ≤ site.limits.head
-    → spares_children act ≡ true → is_plain act ≡ true → KnowsChildren site c e early next ls run
+    → is_to_connection act ≡ true → is_plain act ≡ true → KnowsChildren site c e early next ls run
     → KnowsChildren site c (pushed e (Out act)) early next ls run
 
 -- Memory was wanting: the connection ends the run ..

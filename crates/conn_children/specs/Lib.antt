@@ -4,4 +4,4 @@ pub mod Children
 pub mod Heard
 pub mod Laws
 pub mod Step
-pub mod StepLaws
+pub mod Moves

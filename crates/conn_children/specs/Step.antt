@@ -1,14 +1,12 @@
 -- What the acts of a step do to the children, from act to act.
-use Rattle.std.specs.Prelude.{ℕ, Bool, true, false, ◌+◌, ◌≡◌, ◌≤◌, List, [], ◌∷◌, ◌++◌, map, Option, Some, None}
+use Rattle.std.specs.Prelude.{ℕ, Bool, true, false, ◌+◌, ◌≡◌, ◌≤◌, List, ◌++◌, map, Option, Some, None}
 use Rattle.std.specs.List.{list_any, AllByRecursion}
 use Rattle.host_base.specs.declared.site.Site.{Site}
 use Rattle.host_trace.specs.declared.items.Act.{Act}
-use Rattle.host_trace.specs.declared.items.Event.{Event}
 use Rattle.host_trace.specs.declared.items.Item.{Item}
-use Rattle.host_trace.specs.declared.items.Item.TheVariants.{In, Out}
+use Rattle.host_trace.specs.declared.items.Item.TheVariants.{Out}
 use Rattle.host_trace.specs.Kinds.{names_child, is_end_input, is_kill, is_release, is_want_child}
 use Rattle.host_trace.specs.Projections.{child_wanted, input_ended, killed, output_ended}
-use Rattle.host_trace.specs.Trace.{after_step}
 use Rattle.trace_child.specs.ChildGood.{ChildGood}
 use Rattle.trace_child.specs.Words.{given}
 use Rattle.child_core.specs.Due.{is_at_rest}
@@ -17,7 +15,6 @@ use Rattle.child_core.specs.View.{View}
 use Rattle.child_core.specs.Walk.{Deserved}
 use Rattle.trace_model.specs.Answer.{legs}
 use Rattle.trace_model.specs.Exchange.{Exchange, all_of}
-use Rattle.trace_model.specs.Exchanges.{current, ended_after}
 use Rattle.trace_model.specs.Legs.{Leg, run_of}
 use Rattle.conn_children.specs.Children.{KnowsRuns}
 
@@ -81,18 +78,3 @@ pub record DealsWith (site : Site) (c : ℕ) (heard : List Item) (acts : List Ac
   pub runs : KnowsRuns (Dealt heard acts) site c e early ls run
   pub last : LastIs heard acts turn run
   pub ended : AllByRecursion (LegsOver site c heard acts e.before) over
-
--- What a connection knows of its children after these acts of a step.
-abbrev pub StepKnows : Site → ℕ → List Item → Event → List Act → Bool → Turn → ℕ → List Leg → Option View → Type 0
-StepKnows site c L event acts early turn next ls run =
-    DealsWith site c (L ++ In event ∷ []) acts (current site c (after_step L event acts)) (ended_after site c (current site c L) (In event ∷ map Out acts)) early turn next ls run
-
--- ---- where the exchange ended with an item, nothing of it is left
-
-abbrev pub legs_by : Bool → List Leg → List Leg
-legs_by true ls = []
-legs_by false ls = ls
-
-abbrev pub run_by : Bool → Option View → Option View
-run_by true run = None
-run_by false run = run

@@ -4,7 +4,7 @@
 #![tactic(auto)]
 
 mod laws;
-mod step_laws;
+mod move_laws;
 
 pub use laws::{
     acts_bring_nothing, drains_are_known, ends_are_exact, events_are_known, events_hold,
@@ -13,7 +13,7 @@ pub use laws::{
     settings_are_of_legs, settings_are_still, shuts_are_known, some_calls_are_idle,
     starts_are_known, unsettled_is_exact,
 };
-pub use step_laws::{
-    steps_are_known, steps_begin, steps_drain, steps_end_well, steps_go_on, steps_lose,
-    steps_serve, steps_shut, steps_start, turns_are_free,
+pub use move_laws::{
+    acts_move, drains_move, ends_move, events_begin, losses_move, moves_end_well, moves_tell,
+    no_child_moves, serves_move, shuts_move, starts_move,
 };
