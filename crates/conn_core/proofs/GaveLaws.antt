@@ -9,6 +9,7 @@ use Rattle.host_trace.specs.declared.items.Act.{Act}
 use Rattle.host_trace.specs.declared.items.Event.{Event}
 use Rattle.host_trace.specs.declared.items.Act.TheVariants.{WantClient, Write, Shut, Start, Feed, EndInput, WantChild, Kill, Release, Upgrade, Says, CloseWs}
 use Rattle.host_trace.specs.declared.items.Item.{Item}
+use Rattle.host_trace.specs.declared.items.Why.{Why}
 use Rattle.host_trace.specs.declared.items.Item.TheVariants.{In, Out}
 use Rattle.host_trace.specs.Told.{Adds, when}
 use Rattle.host_trace.proofs.AddsLaws.{Adds-trans}
@@ -18,7 +19,7 @@ use Rattle.child_core.specs.View.{View}
 use Rattle.child_core.specs.Due.{acted, acted_by, acting, acting_by, feed_given, input_given, kill_given, release_given, is_ask_due, is_feed_due, is_input_due, is_kill_due, is_release_due, piece_of}
 use Rattle.conn_core.specs.declared.conn.Conn.{Conn}
 use Rattle.trace_child.specs.Words.{is_filled}
-use Rattle.conn_marks.specs.View.{View as Marks, noted, may_write, less_by, more_by}
+use Rattle.conn_marks.specs.View.{View as Marks, is_live, noted, may_write, less_by, more_by}
 use Rattle.conn_marks.specs.Form.{is_allowed, given_all, are_given}
 use Rattle.conn_marks.proofs.KnowsLaws.{given_all-append, are_given-append, given_all-number}
 use Rattle.trace_model.specs.Exchange.{Exchange, continue_text, pushed, request_bytes}
@@ -703,3 +704,11 @@ continue_acts c bytes found is = ap (λ (text : List ℕ). acts_written c text f
     go : (b : Bool) → acts_written c continue_text b ≡ acts_continued c b
     go true = refl
     go false = refl
+
+-- a connection that was shut is not live
+pub shut_dead : (m : Marks) (why : Why) → is_live (noted m (Out (Shut m.c why))) ≡ false
+shut_dead m why = ap (λ (b : Bool). m.accepted && not (b || m.shut)) (same_number m.c) ∙ and_false m.accepted
+  where
+    and_false : (b : Bool) → (b && false) ≡ false
+    and_false true = refl
+    and_false false = refl

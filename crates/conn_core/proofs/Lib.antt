@@ -1,3 +1,4 @@
 pub mod GaveLaws
 pub mod StepLaws
 pub mod HearLaws
+pub mod ReadyLaws

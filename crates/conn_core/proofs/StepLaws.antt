@@ -1,19 +1,27 @@
 -- What is known of a connection's list after a step.
-use Rattle.std.proofs.Common.{◌≡◌, ◌≤◌, ◌∙◌, ap, ℕ, Bool, true, false, List, [], ◌∷◌, ◌++◌, map, Option, refl, sym, subst, append_assoc}
+use Rattle.std.proofs.Common.{◌≡◌, ◌≤◌, ◌∙◌, ap, ℕ, Bool, true, false, not, List, [], ◌∷◌, ◌++◌, map, Option, refl, sym, subst, append_assoc}
 use Rattle.host_trace.specs.declared.items.Event.{Event}
 use Rattle.host_trace.specs.declared.items.Item.{Item}
 use Rattle.host_trace.specs.declared.items.Item.TheVariants.{In, Out}
-use Rattle.host_trace.specs.Trace.{after_step}
+use Rattle.host_base.specs.declared.site.Site.{Site}
+use Rattle.host_trace.specs.Projections.{stopped}
+use Rattle.host_trace.specs.Trace.{after_step, end_of, step_of}
+use Rattle.trace_child.specs.Words.{implies}
+use Rattle.trace_model.specs.Demands.{is_live as is_live_then}
+use Rattle.trace_model.specs.Steps.{goes_on}
+use Rattle.trace_model.specs.Stops.{stops}
+use Rattle.trace_model.proofs.ExchangeLaws.{all_of-current}
+use Rattle.conn_core.specs.Reasons.{Stops}
 use Rattle.own_traces.specs.OwnFits.{fits_own}
-use Rattle.conn_marks.specs.View.{View as Marks, noted}
+use Rattle.conn_marks.specs.View.{View as Marks, is_live, noted}
 use Rattle.conn_marks.specs.Form.{given_all}
 use Rattle.conn_marks.specs.Knows.{Knows as KnowsMarks}
-use Rattle.conn_marks.proofs.KnowsLaws.{events_admitted, known_all, known_next}
+use Rattle.conn_marks.proofs.KnowsLaws.{events_admitted, given_all-number, known_all, known_next}
 use Rattle.conn_laws.specs.Form.{all_come, all_in_time}
-use Rattle.conn_laws.proofs.FormLaws.{acts_come, acts_in_time}
+use Rattle.conn_laws.proofs.FormLaws.{acts_come, acts_in_time, marks_say}
 use Rattle.conn_core.specs.declared.conn.Conn.{Conn}
 use Rattle.host_trace.specs.declared.items.Act.{Act}
-use Rattle.trace_model.specs.Exchange.{Exchange, pushed}
+use Rattle.trace_model.specs.Exchange.{Exchange, all_of, pushed}
 use Rattle.trace_model.specs.Exchanges.{current, current_after, has_ended, next_of}
 use Rattle.trace_model.proofs.ExchangeLaws.{current-step}
 use Rattle.conn_front.specs.Moves.{AreInStep, moved}
@@ -61,3 +69,21 @@ step_fronts old new ev n m before after L s two settled known in_step on =
     ∙ (ap (λ (acts : List Act). current_after site c (next_of site c (current site c L) (In ev)) (map Out acts)) (sym s.same)
     ∙ moves_cut site c first s.moves in_step on) in
     subst (λ (e : Exchange). StandsFor new e) (sym is) led
+
+stops_by : (stopped live : Bool) → (stopped ≡ true → live ≡ false) → implies stopped (not live) ≡ true
+stops_by true live h = ap (λ (b : Bool). not b) (h refl)
+stops_by false live h = refl
+
+pub step_stops : (limit : ℕ) (site : Site) (old new : Conn) (ev : Event) (n m : ℕ) (before after : Option (List Item)) (L : List Item)
+    → (s : Stepped old ev n before new m after) → KnowsMarks (marks_of old) L → fits_own limit L ev ≡ true → Stops (marks_of new)
+    → stops (number_of old) (goes_on site (number_of old) (step_of L ev s.acts)) ≡ true
+step_stops limit site old new ev n m before after L s k f stops_then =
+    let known : KnowsMarks (marks_of new) (after_step L ev s.acts) = step_known limit old new ev n m before after L s k f in
+    let says = marks_say (marks_of new) (after_step L ev s.acts) known in
+    let c_is : (marks_of new).c ≡ number_of old = ap (λ (v : Marks). v.c) s.marks ∙ given_all-number (noted (marks_of old) (In ev)) s.acts in
+    let live : is_live_then (number_of old) (after_step L ev s.acts) ≡ is_live (marks_of new) =
+    ap (λ (c : ℕ). is_live_then c (after_step L ev s.acts)) (sym c_is) ∙ sym says.live in
+    let all : all_of (current site (number_of old) (after_step L ev s.acts)) ≡ after_step L ev s.acts = all_of-current site (number_of old) (after_step L ev s.acts) in
+    ap (λ (l : List Item). implies (stopped l) (not (is_live_then (number_of old) l))) all
+    ∙ (ap (λ (b : Bool). implies b (not (is_live_then (number_of old) (after_step L ev s.acts)))) (sym says.stopped_then)
+    ∙ (ap (λ (b : Bool). implies (marks_of new).stopped (not b)) live ∙ stops_by (marks_of new).stopped (is_live (marks_of new)) stops_then))

@@ -3,14 +3,18 @@ use Rattle.std.specs.Prelude.{ℕ, Bool, true, false, ◌≤◌, ◌≡◌, List
 use Rattle.host_trace.specs.declared.items.Event.{Event}
 use Rattle.host_trace.specs.declared.items.Item.{Item}
 use Rattle.host_trace.specs.declared.items.Item.TheVariants.{In}
-use Rattle.host_trace.specs.Trace.{after_step}
+use Rattle.host_base.specs.declared.site.Site.{Site}
+use Rattle.host_trace.specs.Trace.{after_step, step_of}
 use Rattle.own_traces.specs.OwnFits.{fits_own}
 use Rattle.conn_marks.specs.Knows.{Knows as KnowsMarks}
 use Rattle.conn_laws.specs.Form.{all_come, all_in_time}
 use Rattle.conn_core.specs.declared.conn.Conn.{Conn}
 use Rattle.trace_model.specs.Exchange.{pushed}
 use Rattle.trace_model.specs.Exchanges.{current, has_ended}
+use Rattle.trace_model.specs.Steps.{goes_on}
+use Rattle.trace_model.specs.Stops.{stops}
 use Rattle.conn_front.specs.Moves.{AreInStep, moved}
+use Rattle.conn_core.specs.Reasons.{Stops}
 use Rattle.conn_core.specs.Kept.{HasChildIn, StandsFor, Stepped, is_settled_as, marks_of, number_of, site_of}
 use Rattle.conn_core.specs.Slot.{run_settled}
 
@@ -41,3 +45,9 @@ StepsKeepFronts = (old new : Conn) (ev : Event) (n m : ℕ) (before after : Opti
     → AreInStep (site_of old) (number_of old) (pushed (current (site_of old) (number_of old) L) (In ev)) s.moves
     → has_ended (site_of old) (number_of old) (moved (site_of old) (number_of old) (pushed (current (site_of old) (number_of old) L) (In ev)) s.moves) ≡ false
     → StandsFor new (current (site_of old) (number_of old) (after_step L ev s.acts))
+
+-- After Stop it is shut, as the model says.
+abbrev pub StepsStop : Type 0
+StepsStop = (limit : ℕ) (site : Site) (old new : Conn) (ev : Event) (n m : ℕ) (before after : Option (List Item)) (L : List Item)
+    → (s : Stepped old ev n before new m after) → KnowsMarks (marks_of old) L → fits_own limit L ev ≡ true → Stops (marks_of new)
+    → stops (number_of old) (goes_on site (number_of old) (step_of L ev s.acts)) ≡ true

@@ -3,4 +3,7 @@ pub mod Kept
 pub mod Moves
 pub mod Settles
 pub mod Writes
+pub mod Reasons
+pub mod Ready
+pub mod Begins
 pub mod Laws

@@ -1,5 +1,8 @@
 // What is to be written of an answer.
-ghost use Rattle.std.specs.Prelude.{◌≡◌, IfOk, option_map};
+ghost use Rattle.std.specs.Prelude.{◌≡◌, IfOk, IfSome, Some, true, false, [], option_map};
+ghost use Rattle.trace_model.specs.Answer.{request_of_hop};
+ghost use Rattle.trace_model.specs.Readings.{is_head_request};
+ghost use Rattle.conn_core.specs.Ready.{HearsPiece, HearsTick};
 ghost use Rattle.reply_writer.specs.WholeRules.{IsStamp};
 
 use crate::conn::Conn;
@@ -21,6 +24,8 @@ fn heard_text(
     now: Option<u64>,
 ) -> Result<Bytes, NoMemory>
     requires { IsStamp now }
+    ensures piece { IfOk result (λ text. HearsPiece reply.old piece closes now text reply.new) }
+    ensures none { piece ≡ [] → (reply.new ≡ reply.old) × IfOk result (λ text. text ≡ []) }
 {
     if piece.is_empty() {
         return Ok(piece);
@@ -37,6 +42,8 @@ fn ticked_text(
     now: Option<u64>,
 ) -> Result<Bytes, NoMemory>
     requires { IsStamp now }
+    ensures none { came ≡ false → (reply.new ≡ reply.old) × IfOk result (λ text. text ≡ []) }
+    ensures tick { came ≡ true → IfOk result (λ text. HearsTick reply.old closes now text reply.new) }
 {
     if came {
         reply.tick(closes, now)
@@ -50,7 +57,9 @@ fn request_of_hop(
     alloc: Global,
     request: &Request,
     location: &Bytes,
-) -> Result<Option<Request>, NoMemory> {
+) -> Result<Option<Request>, NoMemory>
+    ensures { IfOk result (λ found. IfSome found (λ made. made ≡ request_of_hop request.now location.now)) }
+{
     if !is_local(location.as_slice()) {
         return Ok(None);
     }
@@ -58,19 +67,26 @@ fn request_of_hop(
     Ok(Some(redirected(alloc, request, target)?))
 }
 
-fn is_head(request: &Request) -> bool {
+fn is_head(request: &Request) -> bool
+    ensures { result ≡ is_head_request (Some request.now) }
+{
     request.method.as_slice() == b"HEAD".as_slice()
 }
 
 impl<'s> Conn<'s> {
     ghost use Rattle.std.specs.Prelude.{ℕ, ◌≡◌, IfOk};
+    ghost use Rattle.std.specs.Prelude.{List, true, false, []};
+    ghost use Rattle.exchange_request.specs.Knows.{bare_of};
     ghost use Rattle.conn_core.specs.Kept.{Gave, Kept, site_of};
+    ghost use Rattle.conn_core.specs.Begins.{ByOutcome, ReadiesAnswer};
+    ghost use Rattle.conn_core.specs.Ready.{Breaks, Concludes, Faults, HearsPiece, HearsTick, ReadsAll, Tells, closes_with, drained_run, outcome_of_run, stage_of_hop, undrained};
     ghost use Rattle.reply_writer.specs.WholeRules.{IsStamp};
 
     // Makes ready what is due of the exchange's answer.
     pub(crate) fn ready_answer(&mut self, now: Option<u64>)
         requires { IsStamp now }
         ensures kept { Kept self.old self.new }
+        ensures answer { self.new.lost ≡ false → ReadiesAnswer self.old.stage now self.old self.new }
     {
         match self.take_stage() {
             Stage::Rejected { cause, bare } => self.ready_fault(cause, bare, true, now),
@@ -84,6 +100,7 @@ impl<'s> Conn<'s> {
     pub(crate) fn ready_fault(&mut self, cause: Cause, bare: bool, closes: bool, now: Option<u64>)
         requires { IsStamp now }
         ensures kept { Kept self.old self.new }
+        ensures fault { self.new.lost ≡ false → Faults cause bare closes now self.old self.new }
     {
         match fault_text(self.alloc, cause, bare, closes, now) {
             Ok(text) => self.put(Stage::Finishing { text, closes }),
@@ -94,6 +111,7 @@ impl<'s> Conn<'s> {
     fn ready_broken(&mut self, cause: Cause, now: Option<u64>)
         requires { IsStamp now }
         ensures kept { Kept self.old self.new }
+        ensures fault { self.new.lost ≡ false → Faults cause (bare_of self.old.request) true now self.old self.new }
     {
         match self.request.is_bare() {
             Ok(bare) => self.ready_fault(cause, bare, true, now),
@@ -105,6 +123,7 @@ impl<'s> Conn<'s> {
     fn ready_by_run(&mut self, leg: Leg, now: Option<u64>)
         requires { IsStamp now }
         ensures kept { Kept self.old self.new }
+        ensures by { self.new.lost ≡ false → ByOutcome (outcome_of_run self.old.run) leg now self.old self.new }
     {
         match self.outcome() {
             None => self.ready_part(leg, now),
@@ -114,7 +133,9 @@ impl<'s> Conn<'s> {
         }
     }
 
-    fn outcome(&self) -> Option<Outcome> {
+    fn outcome(&self) -> Option<Outcome>
+        ensures { result ≡ outcome_of_run self.now.run }
+    {
         match &self.run {
             None => None,
             Some(run) => run.outcome(),
@@ -122,7 +143,9 @@ impl<'s> Conn<'s> {
     }
 
     // Whether an answer of this leg's script that begins now closes the connection (RFC 9112 9.3 and 9.6).
-    fn closes_by(&self, kind: ScriptKind) -> bool {
+    fn closes_by(&self, kind: ScriptKind) -> bool
+        ensures { (bytes : List ℕ) → ReadsAll self.now bytes → result ≡ closes_with self.now kind bytes }
+    {
         kind == ScriptKind::Nph || !self.request.lets_persist()
     }
 
@@ -130,6 +153,7 @@ impl<'s> Conn<'s> {
     fn ready_part(&mut self, leg: Leg, now: Option<u64>)
         requires { IsStamp now }
         ensures kept { Kept self.old self.new }
+        ensures part { self.new.lost ≡ false → Tells leg now self.old self.new }
     {
         let mut leg = leg;
         let closes = self.closes_by(leg.kind);
@@ -145,6 +169,8 @@ impl<'s> Conn<'s> {
     // The output that was heard since.
     fn next_piece(&mut self) -> Bytes
         ensures kept { Kept self.old self.new }
+        ensures piece { result ≡ undrained self.old.run }
+        ensures run { self.new ≡ record self.old { run = drained_run self.old.run } }
     {
         match &mut self.run {
             Some(run) => run.drain(),
@@ -161,6 +187,12 @@ impl<'s> Conn<'s> {
     ) -> Result<Bytes, NoMemory>
         requires { IsStamp now }
         ensures kept { Kept self.old self.new }
+        ensures run { self.new ≡ record self.old { run = drained_run self.old.run } }
+        ensures leg { IfOk result (λ text. leg.new ≡ record leg.old { reply = leg.new.reply; ticked = false }) }
+        ensures piece { leg.old.ticked ≡ false
+            → IfOk result (λ text. HearsPiece leg.old.reply (undrained self.old.run) closes now text leg.new.reply) }
+        ensures tick { leg.old.ticked ≡ true → undrained self.old.run ≡ []
+            → IfOk result (λ text. HearsTick leg.old.reply closes now text leg.new.reply) }
     {
         let piece = self.next_piece();
         let mut text = heard_text(&mut leg.reply, piece, closes, now)?;
@@ -177,6 +209,7 @@ impl<'s> Conn<'s> {
     fn ready_last(&mut self, leg: Leg, now: Option<u64>)
         requires { IsStamp now }
         ensures kept { Kept self.old self.new }
+        ensures last { self.new.lost ≡ false → Concludes leg now self.old self.new }
     {
         let closes_now = self.closes_by(leg.kind);
         let closes = leg.reply.closes(closes_now);
@@ -197,6 +230,7 @@ impl<'s> Conn<'s> {
     // A local redirect.
     fn hop(&mut self, hop: u32, request: &Request, location: &Bytes)
         ensures kept { Kept self.old self.new }
+        ensures hop { self.new.lost ≡ false → self.new ≡ record self.old { stage = stage_of_hop (site_of self.old) hop request.now location.now } }
     {
         if hop >= self.site.limits.redirects {
             self.put(Stage::Refused(Cause::RedirectLoop));
@@ -215,6 +249,7 @@ impl<'s> Conn<'s> {
     fn ready_failure(&mut self, leg: Leg, cause: Cause, now: Option<u64>)
         requires { IsStamp now }
         ensures kept { Kept self.old self.new }
+        ensures failed { self.new.lost ≡ false → Breaks leg cause now self.old self.new }
     {
         let closes = self.closes_by(leg.kind);
         match leg.reply.fail(cause, closes, now) {

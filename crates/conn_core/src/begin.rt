@@ -3,6 +3,8 @@ ghost use Rattle.std.specs.Prelude.{◌≡◌, IsTrue, IfSome};
 ghost use Rattle.host_base.specs.SiteRules.{IsServed};
 ghost use Rattle.meta_variables.specs.Launch.{HasTexts, NamesScript, is_text_or_none};
 ghost use Rattle.std.specs.Str.{is_utf8};
+ghost use Rattle.std.specs.Prelude.{Some};
+ghost use Rattle.trace_model.specs.Places.{script_of};
 
 use crate::conn::Conn;
 use exchange_reply::LegReply;
@@ -43,7 +45,8 @@ fn has_texts(request: &Request) -> bool
 
 // The mapped script.
 fn script_at<'a>(site: &'a Site, mapped: &Mapped) -> Option<&'a Script>
-    ensures { IfSome result (λ script. NamesScript site.now mapped.now) }
+    ensures names { IfSome result (λ script. NamesScript site.now mapped.now) }
+    ensures is { IfSome result (λ script. script_of site.now mapped.now ≡ Some script.now) }
 {
     match site.hosts.as_slice().get(mapped.host as usize) {
         Some(host) => host.scripts.as_slice().get(mapped.index as usize),
@@ -53,6 +56,8 @@ fn script_at<'a>(site: &'a Site, mapped: &Mapped) -> Option<&'a Script>
 
 impl<'s> Conn<'s> {
     ghost use Rattle.std.specs.Prelude.{ℕ, ◌≡◌, IfOk};
+    ghost use Rattle.std.specs.Prelude.{false};
+    ghost use Rattle.conn_core.specs.Begins.{Finds, IsLegOf, Launches, Places, ReadiesHop, Refuses, Starts};
     ghost use Rattle.conn_core.specs.Kept.{Gave, Kept, site_of};
     ghost use Rattle.reply_writer.specs.WholeRules.{IsStamp};
     ghost use Rattle.host_base.specs.SiteRules.{IsServed};
@@ -62,6 +67,7 @@ impl<'s> Conn<'s> {
         requires stamp { IsStamp now }
         requires served { IsServed (site_of self.old) }
         ensures kept { Kept self.old self.new }
+        ensures hop { self.new.lost ≡ false → ReadiesHop self.old.stage now self.old self.new }
     {
         match self.take_stage() {
             Stage::Refused(cause) => self.ready_refusal(cause, now),
@@ -74,6 +80,7 @@ impl<'s> Conn<'s> {
     fn ready_refusal(&mut self, cause: Cause, now: Option<u64>)
         requires { IsStamp now }
         ensures kept { Kept self.old self.new }
+        ensures refusal { self.new.lost ≡ false → Refuses cause now self.old self.new }
     {
         let bare = match self.request.manner() {
             None => false,
@@ -88,6 +95,7 @@ impl<'s> Conn<'s> {
         requires stamp { IsStamp now }
         requires served { IsServed (site_of self.old) }
         ensures kept { Kept self.old self.new }
+        ensures place { self.new.lost ≡ false → Places hop request now self.old self.new }
     {
         match map(self.alloc, self.site, &request.target) {
             Ok(mapped) => self.ready_script(hop, request, mapped, now),
@@ -99,6 +107,7 @@ impl<'s> Conn<'s> {
     fn ready_script(&mut self, hop: u32, request: Request, mapped: Mapped, now: Option<u64>)
         requires { IsStamp now }
         ensures kept { Kept self.old self.new }
+        ensures script { self.new.lost ≡ false → Finds hop request mapped now self.old self.new }
     {
         let Some(script) = script_at(self.site, &mapped) else {
             self.lose();
@@ -118,6 +127,7 @@ impl<'s> Conn<'s> {
     // The Start of a hop's script.
     fn ready_start(&mut self, hop: u32, kind: ScriptKind, request: Request, mapped: &Mapped)
         ensures kept { Kept self.old self.new }
+        ensures start { self.new.lost ≡ false → Starts hop kind request mapped.now self.old self.new }
     {
         let launch = match self.launch_of(&request, mapped) {
             Ok(launch) => launch,
@@ -138,7 +148,9 @@ impl<'s> Conn<'s> {
         });
     }
 
-    fn leg_of(&self, hop: u32, kind: ScriptKind, request: Request) -> Leg {
+    fn leg_of(&self, hop: u32, kind: ScriptKind, request: Request) -> Leg
+        ensures { IsLegOf hop kind request result }
+    {
         let asked = Asked {
             kind,
             version: request.version,
@@ -154,7 +166,9 @@ impl<'s> Conn<'s> {
         }
     }
 
-    fn launch_of(&self, request: &Request, mapped: &Mapped) -> Result<Launch, NoMemory> {
+    fn launch_of(&self, request: &Request, mapped: &Mapped) -> Result<Launch, NoMemory>
+        ensures { IfOk result (λ launch. Launches self.now request.now mapped.now launch) }
+    {
         let Some(peer) = &self.peer else {
             return Err(NoMemory);
         };

@@ -14,9 +14,16 @@ impl<'s> Conn<'s> {
     ghost use Rattle.host_trace.specs.Kinds.{is_no_memory};
     ghost use Rattle.conn_core.specs.Kept.{Gave, Kept, site_of};
     ghost use Rattle.conn_core.specs.Moves.{given_up_by};
+    ghost use Rattle.conn_core.specs.Reasons.{Stops, is_done_with, why_of};
+    ghost use Rattle.exchange_request.specs.Knows.{Knows, limits_of};
+    ghost use Rattle.std.specs.Prelude.{Bool, List, ◌≤◌};
     // Why the connection is to be shut.
     fn why(&self) -> Option<Why>
-        ensures { is_some result ≡ true → is_live self.now.marks ≡ true }
+        ensures live { is_some result ≡ true → is_live self.now.marks ≡ true }
+        ensures stops { is_some result ≡ false → self.now.marks.stopped ≡ true → is_live self.now.marks ≡ false }
+        ensures why { (bytes : List ℕ) (taken : ℕ) → 2 ≤ (limits_of self.now.request).head → Knows self.now.request bytes taken
+            → result ≡ why_of self.now (is_done_with self.now bytes) }
+        ensures lost { self.now.lost ≡ true → (done : Bool) → result ≡ why_of self.now done }
     {
         if !self.marks.is_live() {
             None
@@ -39,6 +46,7 @@ impl<'s> Conn<'s> {
 
     // Shuts the connection where that is due.
     pub(crate) fn close<O: Outside>(&mut self, out: &mut O)
+        ensures stops { Stops self.new.marks }
         ensures gave { (n : ℕ) → Gave self.old n (O.trace out.old) self.new n (O.trace out.new) }
         ensures limit { O.limit out.new ≡ O.limit out.old }
     {
@@ -49,6 +57,7 @@ impl<'s> Conn<'s> {
 
     pub(crate) fn shut_for<O: Outside>(&mut self, why: Why, out: &mut O)
         requires { is_live self.old.marks ≡ true }
+        ensures shut { is_live self.new.marks ≡ false }
         ensures gave { (n : ℕ) → Gave self.old n (O.trace out.old) self.new n (O.trace out.new) }
         ensures limit { O.limit out.new ≡ O.limit out.old }
     {
@@ -86,6 +95,7 @@ impl<'s> Conn<'s> {
 
     // Asks the client where it must be heard.
     pub(crate) fn want<O: Outside>(&mut self, out: &mut O)
+        ensures stops { Stops self.old.marks → Stops self.new.marks }
         ensures gave { (n : ℕ) → Gave self.old n (O.trace out.old) self.new n (O.trace out.new) }
         ensures limit { O.limit out.new ≡ O.limit out.old }
     {
@@ -102,6 +112,7 @@ impl<'s> Conn<'s> {
 
     fn ask<O: Outside>(&mut self, out: &mut O)
         requires { is_allowed self.old.marks (WantClient self.old.marks.c) ≡ true }
+        ensures stops { Stops self.old.marks → Stops self.new.marks }
         ensures gave { (n : ℕ) → Gave self.old n (O.trace out.old) self.new n (O.trace out.new) }
         ensures limit { O.limit out.new ≡ O.limit out.old }
     {

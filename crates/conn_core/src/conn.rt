@@ -55,6 +55,9 @@ impl<'s> Conn<'s> {
     ghost use Rattle.conn_marks.specs.View.{fresh, has_room, may_write};
     ghost use Rattle.conn_core.specs.Kept.{Gave, Kept, Stepped, is_reading, marks_of, number_of, peer_of, site_of};
     ghost use Rattle.conn_core.specs.Slot.{child_of, held_of, run_settled};
+    ghost use Rattle.conn_core.specs.Reasons.{Stops, is_done_with};
+    ghost use Rattle.exchange_request.specs.Knows.{Knows, limits_of};
+    ghost use Rattle.std.specs.Prelude.{List, ◌≤◌};
     ghost use Rattle.reply_writer.specs.WholeRules.{IsStamp};
     ghost use Rattle.host_base.specs.SiteRules.{IsServed};
     /// Connection `c`, which is not accepted yet. It takes no memory.
@@ -98,6 +101,7 @@ impl<'s> Conn<'s> {
         requires served { IsServed (site_of self.old) }
         ensures gave { Stepped self.old ev children.old (O.trace out.old) self.new children.new (O.trace out.new) }
         ensures held { result ≡ held_of self.new }
+        ensures stops { Stops (marks_of self.new) }
         ensures limit { O.limit out.new ≡ O.limit out.old }
     {
         self.hear(ev);
@@ -194,7 +198,10 @@ impl<'s> Conn<'s> {
     }
 
     /// The client ended its input, and no request has begun.
-    pub(crate) fn is_client_done(&self) -> bool {
+    pub(crate) fn is_client_done(&self) -> bool
+        ensures { (bytes : List ℕ) (taken : ℕ) → 2 ≤ (limits_of self.now.request).head → Knows self.now.request bytes taken
+            → result ≡ is_done_with self.now bytes }
+    {
         self.marks.has_ended() && matches!(self.stage, Stage::Reading) && !self.request.has_begun()
     }
 }

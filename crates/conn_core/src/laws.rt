@@ -1,5 +1,5 @@
 // Laws of the steps of a connection. Each function is one law, and does nothing.
-ghost use Rattle.conn_core.specs.Laws.{StepsAreKnown, StepsAreInForm, StepsAreInTime, StepsKeepFronts};
+ghost use Rattle.conn_core.specs.Laws.{StepsAreKnown, StepsAreInForm, StepsAreInTime, StepsKeepFronts, StepsStop};
 
 /// The marks of a connection know its list after each step of an event that fits.
 pub fn steps_are_known()
@@ -19,4 +19,9 @@ pub fn steps_are_in_time()
 /// What a connection knows of its exchange beside its script goes on with each step that keeps step with the model.
 pub fn steps_keep_fronts()
     ensures { StepsKeepFronts }
+{}
+
+/// After Stop a connection is shut.
+pub fn steps_stop()
+    ensures { StepsStop }
 {}

@@ -11,4 +11,6 @@ mod laws;
 mod serve;
 
 pub use conn::{Conn, Held};
-pub use laws::{steps_are_in_form, steps_are_in_time, steps_are_known, steps_keep_fronts};
+pub use laws::{
+    steps_are_in_form, steps_are_in_time, steps_are_known, steps_keep_fronts, steps_stop,
+};

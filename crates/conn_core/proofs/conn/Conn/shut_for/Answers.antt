@@ -2,8 +2,8 @@ use Rattle.std.proofs.Common.{refl, sym, ap, ◌∙◌, ℕ, true}
 use Rattle.std.proofs.lemmas.Bool.{and_from}
 use Rattle.host_trace.specs.declared.items.Act.TheVariants.{Shut}
 use Rattle.host_trace.specs.declared.items.Item.TheVariants.{Out}
-use Rattle.conn_marks.specs.View.{is_live, noted}
-use Rattle.conn_core.proofs.GaveLaws.{gave_plain, kept_then}
+use Rattle.conn_marks.specs.View.{View as Marks, is_live, noted}
+use Rattle.conn_core.proofs.GaveLaws.{gave_plain, kept_then, shut_dead}
 use Rattle.conn_core.proofs.conn.Conn.shut_for.Goals as goal
 
 pub returns-clause-gave : goal.returns-clause-gave
@@ -17,3 +17,7 @@ returns-clause-gave g c n =
       lost = λ l. l;
       reading = λ r. r;
     }) c.note_shut.ensures.kept) (λ e known. tt)
+
+pub returns-clause-shut : goal.returns-clause-shut
+returns-clause-shut g c =
+    ap (λ (m : Marks). is_live m) (c.note_shut.ensures.kept.marks ∙ c.shut.ensures c.args.why) ∙ shut_dead c.args.self.now.marks c.args.why

@@ -1,0 +1,58 @@
+-- What the reply of a leg gives, hands out and fails with.
+use Rattle.std.proofs.Common.{◌≡◌, ℕ, ◌==◌, Bool, true, false, ◌||◌, List, [], ◌∷◌, ◌++◌, length, Option, Some, None, Result, Ok, Err, IfOk, refl, sym, ap, ◌∙◌, subst}
+use Rattle.std.proofs.lemmas.Bool.{false≢true}
+use Rattle.host_base.specs.declared.cause.Cause.{Cause}
+use Rattle.reply_kinds.specs.Derived.{is_header_whole}
+use Rattle.reply_stream.specs.declared.asked.Asked.{Asked}
+use Rattle.reply_stream.specs.declared.stream.Last.{Last}
+use Rattle.reply_stream.specs.Writing.{Stood, nothing, begun, is_begun}
+use Rattle.exchange_reply.specs.declared.reply.LegReply.{LegReply}
+use Rattle.exchange_reply.specs.Reply.{Fails, Gives, Knows, SpellsFault}
+use Rattle.exchange_reply.specs.Standings.{Ends}
+use Rattle.conn_core.specs.Ready.{EndsAs, HearsPiece, HearsTick}
+
+pub hears_piece : {E : Type 0} (result : Result (List ℕ) E) (old new : LegReply) (piece : List ℕ) (closes : Bool) (now : Option ℕ)
+    → ((asked : Asked) (told : List ℕ) (ticked : Bool) (stood : Stood) → Knows old asked told ticked stood
+    → IfOk result (λ text. Gives asked (told ++ piece) ticked closes now stood text new))
+    → IfOk result (λ text. HearsPiece old piece closes now text new)
+hears_piece (Ok text) old new piece closes now h = h
+hears_piece (Err e) old new piece closes now h = tt
+
+pub hears_tick : {E : Type 0} (result : Result (List ℕ) E) (old new : LegReply) (closes : Bool) (now : Option ℕ)
+    → ((asked : Asked) (told : List ℕ) (ticked : Bool) (stood : Stood) → Knows old asked told ticked stood
+    → IfOk result (λ text. Gives asked told (ticked || is_header_whole asked.kind told) closes now stood text new))
+    → IfOk result (λ text. HearsTick old closes now text new)
+hears_tick (Ok text) old new closes now h = h
+hears_tick (Err e) old new closes now h = tt
+
+pub not_empty : (text piece : List ℕ) → (length piece == 0) ≡ false → piece ≡ [] → text ≡ []
+not_empty text piece some none = absurd (false≢true (sym some ∙ ap (λ (l : List ℕ). length l == 0) none))
+
+-- ---- the run failed
+
+pub record FailsSome (asked : Asked) (cause : Cause) (closes : Bool) (now : Option ℕ) (stood : Stood) (text : List ℕ) : Type 0 where
+  pub unbegun : false ≡ is_begun stood
+  pub spells : SpellsFault cause asked.head_only closes now text
+
+fails_by : (asked : Asked) (cause : Cause) (closes : Bool) (now : Option ℕ) (stood : Stood) (text : List ℕ) → Fails asked cause closes now stood (Some text)
+    → FailsSome asked cause closes now stood text
+fails_by asked cause closes now nothing text f = record { unbegun = refl; spells = f }
+fails_by asked cause closes now (begun close stamp bytes) text f = absurd f
+
+pub fails_with : (asked : Asked) (cause : Cause) (closes : Bool) (now : Option ℕ) (stood : Stood) (found : Option (List ℕ)) (text : List ℕ) → found ≡ Some text
+    → Fails asked cause closes now stood found → FailsSome asked cause closes now stood text
+fails_with asked cause closes now stood found text is f =
+    fails_by asked cause closes now stood text (subst (λ (o : Option (List ℕ)). Fails asked cause closes now stood o) is f)
+
+cuts_by : (asked : Asked) (cause : Cause) (closes : Bool) (now : Option ℕ) (stood : Stood) → Fails asked cause closes now stood None → true ≡ is_begun stood
+cuts_by asked cause closes now nothing f = absurd f
+cuts_by asked cause closes now (begun close stamp bytes) f = refl
+
+pub fails_without : (asked : Asked) (cause : Cause) (closes : Bool) (now : Option ℕ) (stood : Stood) (found : Option (List ℕ)) → found ≡ None
+    → Fails asked cause closes now stood found → true ≡ is_begun stood
+fails_without asked cause closes now stood found is f = cuts_by asked cause closes now stood (subst (λ (o : Option (List ℕ)). Fails asked cause closes now stood o) is f)
+
+-- ---- its output has ended
+
+pub ends_as : (reply : LegReply) (closes : Bool) (now : Option ℕ) (found last : Last) → found ≡ last → EndsAs reply closes now found → EndsAs reply closes now last
+ends_as reply closes now found last is e = subst (λ (l : Last). EndsAs reply closes now l) is e
