@@ -1,0 +1,9 @@
+pub mod Walked
+pub mod Unanswered
+pub mod OfRun
+pub mod StageIs
+pub mod Items
+pub mod Moves
+pub mod Rules
+pub mod Asks
+pub mod Bodies
