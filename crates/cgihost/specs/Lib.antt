@@ -1,9 +1,1 @@
-pub mod Pieces
-pub mod ChildEvents
-pub mod ChildActs
-pub mod OnceEvents
-pub mod Asked
-pub mod Connection
-pub mod Handed
-pub mod Commands
 pub mod StatusLines

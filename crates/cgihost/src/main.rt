@@ -7,24 +7,26 @@ ghost use Rattle.std.specs.Process.{exit_status};
 ghost use Rattle.std.specs.Vec.Iter.{into_iter_items};
 ghost use Rattle.cgihost.specs.StatusLines.{number_of as number};
 
-mod child;
 mod fault;
-mod once;
-mod piece;
 mod sink;
 mod store;
-mod streams;
 
 use fault::{FaultLine, number_of};
+use host_base::{Sink, SiteStore};
 use host_run::{Status, run};
-use once::OnceWorld;
+use once_edge::OnceWorld;
+use pump_pool::Station;
 use sink::StdSink;
 use std::alloc::Global;
 use std::env;
 use std::env::Args;
 use std::io::ErrorKind;
-use std::process::ExitCode;
+use std::process::{ExitCode, Processes, SystemProcess};
 use std::rt::Env;
+use std::sync::Wait;
+use std::thread::Threads;
+use std::time::Clock;
+use std_spawner::{PumpJob, StartThread, ThreadStarter};
 use store::FileStore;
 
 // The words after the first.
@@ -62,23 +64,55 @@ fn end<R: Eprint>(rt: &R, status: &Status) -> ExitCode
     ExitCode::from(number)
 }
 
+// Runs the host by the words in the world of one connection.
+fn run_in<
+    R: Threads
+        + Sync
+        + Processes<Started = SystemProcess>
+        + Wait
+        + Clock
+        + Copy
+        + Drop
+        + Send
+        + 'static,
+    T: StartThread + Drop + Send + 'static,
+    K: Sink + Drop + Send + 'static,
+    F: SiteStore,
+    S: Sink,
+>(
+    rt: &R,
+    alloc: Global,
+    words: &[String],
+    store: &mut F,
+    report: &mut S,
+    world: OnceWorld<R, T, K>,
+) -> Status {
+    let mut world = world;
+    run(rt, alloc, words, store, report, &mut world)
+}
+
 fn main(rt: HostRuntime) -> ExitCode {
     let alloc = rt.alloc();
-    let status = match words(&rt) {
-        Ok(words) => {
-            let mut store = FileStore::new(rt, alloc);
-            let mut report = StdSink::new(rt);
-            let mut world = OnceWorld::new(rt, alloc);
-            run(
-                &rt,
-                alloc,
-                words.as_slice(),
-                &mut store,
-                &mut report,
-                &mut world,
-            )
-        }
-        Err(status) => status,
+    let words = match words(&rt) {
+        Ok(words) => words,
+        Err(status) => return end(&rt, &status),
     };
+    let start: Box<dyn Fn(Station<PumpJob>) -> bool + Send> = match Box::new(
+        alloc,
+        move |station: Station<PumpJob>| PumpJob::start_thread(&rt, station),
+    ) {
+        Ok(start) => start,
+        Err(_) => return end(&rt, &Status::NoMemory),
+    };
+    let world = OnceWorld::new(
+        rt,
+        alloc,
+        ThreadStarter::new(start),
+        rt.stdin(),
+        StdSink::new(rt),
+    );
+    let mut store = FileStore::new(rt, alloc);
+    let mut report = StdSink::new(rt);
+    let status = run_in(&rt, alloc, words.as_slice(), &mut store, &mut report, world);
     end(&rt, &status)
 }

@@ -72,7 +72,7 @@ due_two c r m s (Exited k) g h = absurd h
 due_two c r m s (Tick secs) g h = absurd h
 due_two c r m s Stop g h = absurd h
 
-says_two : (c : ℕ) (r m s : ClientState) (e : Event) → Rests r m → Says c m s e → Says c r s e
+pub says_two : (c : ℕ) (r m s : ClientState) (e : Event) → Rests r m → Says c m s e → Says c r s e
 says_two c r m s e g h =
     record {
       due = due_two c r m s e g h.due;

@@ -76,7 +76,7 @@ impl<S: Socket> Client<S> {
     ghost use Rattle.socket_set.specs.Clients.{Rests, Says, CountsFaults, UnlessShut, IsNewClient, Writes, Upgrades, Frames, Shuts, WantsMore, SameButUntold, IsUnwanted, SaysMessage};
 
     /// A client of which nothing was heard.
-    pub(crate) fn new(alloc: Global, socket: S) -> Self
+    pub fn new(alloc: Global, socket: S) -> Self
         ensures { IsNewClient (S.tells socket) result }
     {
         Client {
@@ -98,7 +98,7 @@ impl<S: Socket> Client<S> {
     }
 
     /// One event of it is asked for.
-    pub(crate) fn want(&mut self)
+    pub fn want(&mut self)
         ensures { UnlessShut WantsMore self.old self.new }
     {
         if !self.shut {
@@ -107,7 +107,7 @@ impl<S: Socket> Client<S> {
     }
 
     /// Keeps bytes to be sent.
-    pub(crate) fn write(&mut self, bytes: &[u8]) -> Result<(), NoMemory>
+    pub fn write(&mut self, bytes: &[u8]) -> Result<(), NoMemory>
         ensures ok { OnOk result (UnlessShut (Writes bytes.now) self.old self.new) }
         ensures err { OnErr result (self.new ≡ self.old) }
     {
@@ -120,7 +120,7 @@ impl<S: Socket> Client<S> {
     }
 
     /// It speaks WebSocket from `rest` on.
-    pub(crate) fn upgrade(&mut self, alloc: Global, rest: &[u8]) -> Result<(), NoMemory>
+    pub fn upgrade(&mut self, alloc: Global, rest: &[u8]) -> Result<(), NoMemory>
         ensures ok { OnOk result (UnlessShut Upgrades self.old self.new) }
         ensures err { OnErr result (self.new ≡ self.old) }
     {
@@ -135,7 +135,7 @@ impl<S: Socket> Client<S> {
     }
 
     /// Has the link send texts, each in a frame.
-    pub(crate) fn say(&mut self, texts: &[Text])
+    pub fn say(&mut self, texts: &[Text])
         ensures { UnlessShut (Frames (sum_by length texts.now)) self.old self.new }
     {
         if !self.shut {
@@ -166,7 +166,7 @@ impl<S: Socket> Client<S> {
     }
 
     /// Has the link send a close.
-    pub(crate) fn close(&mut self, code: u16)
+    pub fn close(&mut self, code: u16)
         ensures { UnlessShut (Frames 0) self.old self.new }
     {
         if !self.shut {
@@ -205,7 +205,7 @@ impl<S: Socket> Client<S> {
     }
 
     /// It is over. What waits is still sent.
-    pub(crate) fn shut(&mut self)
+    pub fn shut(&mut self)
         ensures { Shuts self.old self.new }
     {
         self.shut = true;
@@ -213,7 +213,7 @@ impl<S: Socket> Client<S> {
     }
 
     /// It was reported that its socket may have bytes or room for them, or that it failed.
-    pub(crate) fn note(&mut self, failed: bool)
+    pub fn note(&mut self, failed: bool)
         ensures { self.new ≡ self.old }
     {
         self.may_receive = true;
@@ -306,9 +306,9 @@ impl<S: Socket> Client<S> {
         !self.may_send && !self.outgoing.is_empty()
     }
 
-    // One step of one that was shut, with which nothing is told; whether it is over then. What its client still
-    // sends is dropped.
-    pub(crate) fn leave(&mut self, buffer: &mut [u8]) -> bool
+    /// One step of one that was shut, with which nothing is told; whether it is over then. What its client still
+    /// sends is dropped.
+    pub fn leave(&mut self, buffer: &mut [u8]) -> bool
         requires { self.old.shut ≡ true }
         ensures buffer { length buffer.new ≡ length buffer.old }
         ensures rests { Rests self.old self.new }
@@ -351,6 +351,13 @@ impl<S: Socket> Client<S> {
         }
     }
 
+    /// Nothing waits to be sent.
+    pub fn is_sent(&self) -> bool
+        ensures { result ≡ (length self.now.outgoing == 0) }
+    {
+        self.outgoing.is_empty()
+    }
+
     // Hears a tick, and answers whether one that was shut is given up.
     pub(crate) fn tick(&mut self) -> bool
         ensures same { self.new ≡ self.old }
@@ -361,7 +368,8 @@ impl<S: Socket> Client<S> {
         self.shut && self.still >= most
     }
 
-    pub(crate) fn is_shut(&self) -> bool
+    /// Nothing more is told of it.
+    pub fn is_shut(&self) -> bool
         ensures { result ≡ self.now.shut }
     {
         self.shut
@@ -385,7 +393,7 @@ impl<S: Socket> Client<S> {
     }
 
     /// What is next to be told of it, if anything is.
-    pub(crate) fn ask(&mut self, alloc: Global, c: u64, buffer: &mut [u8]) -> Option<Event>
+    pub fn ask(&mut self, alloc: Global, c: u64, buffer: &mut [u8]) -> Option<Event>
         requires shut { self.old.shut ≡ false }
         requires buffer { (0 < length buffer.old) × (length buffer.old ≤ 65536) }
         ensures buffer { length buffer.new ≡ length buffer.old }

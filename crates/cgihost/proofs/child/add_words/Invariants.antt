@@ -1,7 +1,0 @@
--- The words so far were added.
-use Rattle.std.proofs.Common.{take}
-use Rattle.cgihost.specs.Commands.{AddsWords}
-use Rattle.cgihost.proofs.child.add_words.Given as goal
-
-abbrev pub invariant-loop-word : goal.invariant-loop-word
-invariant-loop-word l = AddsWords l.initial.command l.command (take l.word-index l.words)

@@ -1,0 +1,2 @@
+pub mod Stdio
+pub mod Once

@@ -1,0 +1,233 @@
+-- What the outside of one connection remembers, and which event comes next.
+use Rattle.std.specs.Prelude.{◌≡◌, ℕ, ◌≤◌, ◌⊎◌, Bool, true, false, List, [], ◌∷◌, ◌++◌, length, sum_by, count_by, Option, Some, None, codes}
+use Rattle.host_base.specs.Outsides.{Rose}
+use Rattle.host_base.specs.declared.launch.Launch.{Launch}
+use Rattle.host_base.specs.declared.launch.Peer.{Peer}
+use Rattle.host_trace.specs.declared.items.Event.{Event}
+use Rattle.host_trace.specs.declared.items.Event.TheVariants.{Accepted, Started, StartFailed, NoRoom, Stop}
+use Rattle.host_trace.specs.declared.items.Act.{Act}
+use Rattle.host_trace.specs.declared.items.Act.TheVariants.{WantClient, Write, Shut, Start, Feed, EndInput, WantChild, Kill, Release, Upgrade, Says as SaysTexts, CloseWs}
+use Rattle.host_trace.specs.declared.items.Item.{Item}
+use Rattle.host_trace.specs.declared.outside.Acted.{Acted}
+use Rattle.host_trace.specs.declared.outside.Acted.TheVariants.{Done, NoRoom as HasNoRoom}
+use Rattle.host_trace.specs.Told.{is_failure}
+use Rattle.child_edge.specs.Kids.{KidTells}
+use Rattle.child_edge.specs.declared.row.Row.{Row}
+use Rattle.child_edge.specs.Rows.{OneSays, Each, Rests, OnKept, Feeds, Changes, Releases, StartsRow, want_marks, end_marks, kept, runs}
+use Rattle.socket_set.specs.Clients.{ClientState, Says, Rests as ClientRests, IsNewClient, UnlessShut, WantsMore, Writes, Upgrades, Frames, Shuts}
+use Rattle.socket_set.specs.Sockets.{SocketTells}
+use Rattle.once_edge.specs.declared.asked.Asked.{Asked}
+
+pub record OnceState (K : Type 0) : Type 0 where
+  -- the client
+  pub client : ClientState
+  -- what is kept of each child
+  pub rows : List (Row K)
+  -- the client that connected, until that is told
+  pub peer : Option Peer
+  -- the children that are to be started, the first to be asked for first
+  pub starts : List Asked
+  -- a child that found no memory, until it is told not to have been started
+  pub unstarted : Option ℕ
+  -- the client failed, so what waits for it is not sent
+  pub cut : Bool
+  -- how many children may run
+  pub limit : ℕ
+  pub faults : ℕ
+
+-- it tells no trace, and its world none that were given back
+abbrev pub untold : {A : Type 0} → A → Option (List Item)
+untold _ = None
+
+abbrev pub none_given : {A : Type 0} → A → Option (List (List Item))
+none_given _ = None
+
+-- how often it found as many children as may run
+abbrev pub none_full : {A : Type 0} → A → ℕ
+none_full _ = 0
+
+-- an act on a child that runs, and an act on the client
+abbrev pub is_on_child : Act → Bool
+is_on_child (Feed k bytes) = true
+is_on_child (EndInput k) = true
+is_on_child (WantChild k) = true
+is_on_child (Kill k) = true
+is_on_child (Release k) = true
+is_on_child _ = false
+
+abbrev pub is_on_client : Act → Bool
+is_on_client (Write c bytes) = true
+is_on_client (Upgrade c rest) = true
+is_on_client (WantClient c) = true
+is_on_client (SaysTexts c texts) = true
+is_on_client (CloseWs c code) = true
+is_on_client (Shut c why) = true
+is_on_client _ = false
+
+-- the client is cut off only where a count of faults rose
+abbrev pub CutCounts : Bool → Bool → ℕ → ℕ → Type 0
+CutCounts before now old new = (now ≡ before) ⊎ Rose old new
+
+-- the child for which no memory was found
+abbrev pub unstarted_by : Event → ℕ → Option ℕ → Option ℕ
+unstarted_by (NoRoom c) k before = Some k
+unstarted_by _ k before = before
+
+module _ {K : Type 0} where
+  -- a client that connected, to whom nothing was told or written, and no child
+  pub record IsNew (socket : SocketTells) (peer : Peer) (limit : ℕ) (s : OnceState K) : Type 0 where
+    pub client : IsNewClient socket s.client
+    pub rows : s.rows ≡ []
+    pub connected : s.peer ≡ Some peer
+    pub starts : s.starts ≡ []
+    pub unstarted : s.unstarted ≡ None
+    pub not_cut : s.cut ≡ false
+    pub limit_is : s.limit ≡ limit
+    pub faults : s.faults ≡ 0
+
+  -- a client at 127.0.0.1 that connected, and nothing else
+  pub record IsFresh (s : OnceState K) : Type 0 where
+    pub who : Peer
+    pub at : who.0 ≡ codes "127.0.0.1"
+    pub socket : SocketTells
+    pub children : ℕ
+    pub is_new : IsNew socket who children s
+
+  -- nothing of a child was told, and those that are settled may be gone
+  abbrev pub ChildrenRest : (K → KidTells) → List (Row K) → List (Row K) → Type 0
+  ChildrenRest tells rows now = (now ≡ rows) ⊎ Each (Rests tells) (kept rows) now
+
+  -- what is to be told besides of the client and of children that run is the same
+  pub record SameDue (old new : OnceState K) : Type 0 where
+    pub peer : new.peer ≡ old.peer
+    pub starts : new.starts ≡ old.starts
+    pub unstarted : new.unstarted ≡ old.unstarted
+
+  -- nothing was told
+  pub record IsQuiet (tells : K → KidTells) (old new : OnceState K) : Type 0 where
+    pub client : ClientRests old.client new.client
+    pub rows : ChildrenRest tells old.rows new.rows
+    pub due : SameDue old new
+
+  -- counts never fall, and each failure is counted
+  pub record Counts (old new : OnceState K) : Type 0 where
+    pub limit : new.limit ≡ old.limit
+    pub grown : old.faults ≤ new.faults
+    pub cut : CutCounts old.cut new.cut old.faults new.faults
+
+  -- the client gave the event, by its clauses
+  pub record OfClient (tells : K → KidTells) (event : Event) (old new : OnceState K) : Type 0 where
+    pub says : Says 0 old.client new.client event
+    pub rows : ChildrenRest tells old.rows new.rows
+    pub due : SameDue old new
+
+  -- one child that was kept gave the event, by its clauses
+  pub record OfChild (tells : K → KidTells) (event : Event) (old new : OnceState K) : Type 0 where
+    pub says : OneSays tells event (kept old.rows) new.rows
+    pub client : ClientRests old.client new.client
+    pub due : SameDue old new
+
+  -- the client was shut, every child that was started was told to have exited, none is to be started, and what was
+  -- written left for the client unless that failed
+  pub record IsOver (tells : K → KidTells) (old new : OnceState K) : Type 0 where
+    pub quiet : IsQuiet tells old new
+    pub shut : new.client.shut ≡ true
+    pub none_runs : count_by runs new.rows ≡ 0
+    pub none_asked : new.starts ≡ []
+    pub sent : (new.client.outgoing ≡ []) ⊎ (new.cut ≡ true)
+
+  -- what a start of child k of connection c is answered with, by what it did to the children; NoRoom is told where no
+  -- memory was found
+  abbrev pub Begins : (K → KidTells) → ℕ → ℕ → Event → List (Row K) → List (Row K) → Type 0
+  Begins tells k c (Started j) rows now = (j ≡ k) × StartsRow tells k c (kept rows) now
+  Begins tells k c (StartFailed j) rows now = (j ≡ k) × ((now ≡ rows) ⊎ (now ≡ kept rows))
+  Begins tells k c (NoRoom d) rows now = (d ≡ c) × ((now ≡ rows) ⊎ (now ≡ kept rows))
+  Begins tells k c _ rows now = ⊥
+
+  -- a child was tried to be started
+  pub record IsBegun (tells : K → KidTells) (asked : Asked) (event : Event) (old new : OnceState K) : Type 0 where
+    pub begins : Begins tells asked.k asked.c event old.rows new.rows
+    pub unstarted : new.unstarted ≡ unstarted_by event asked.k old.unstarted
+    pub starts : new.starts ≡ old.starts
+    pub client : new.client ≡ old.client
+    pub peer : new.peer ≡ old.peer
+
+  -- the first child that was asked for was tried to be started
+  pub record OfStart (tells : K → KidTells) (event : Event) (old new : OnceState K) : Type 0 where
+    pub asked : Asked
+    pub first : old.starts ≡ asked ∷ new.starts
+    pub begins : Begins tells asked.k asked.c event old.rows new.rows
+    pub unstarted : new.unstarted ≡ unstarted_by event asked.k old.unstarted
+    pub client : new.client ≡ old.client
+    pub peer : new.peer ≡ old.peer
+
+  -- the client connected
+  pub record OfPeer (event : Event) (old new : OnceState K) : Type 0 where
+    pub who : Peer
+    pub connected : old.peer ≡ Some who
+    pub event_is : event ≡ Accepted who
+    pub told : new ≡ record old { peer = None }
+
+  -- a child found no memory
+  pub record OfUnstarted (event : Event) (old new : OnceState K) : Type 0 where
+    pub k : ℕ
+    pub found_none : old.unstarted ≡ Some k
+    pub event_is : event ≡ StartFailed k
+    pub told : new ≡ record old { unstarted = None; faults = new.faults }
+
+  -- what is due before anything is waited for
+  abbrev pub IsDue : (K → KidTells) → Event → OnceState K → OnceState K → Type 0
+  IsDue tells event old new = OfPeer event old new ⊎ OfUnstarted event old new ⊎ OfStart tells event old new
+
+  -- what is waited for
+  abbrev pub IsHeard : (K → KidTells) → Event → OnceState K → OnceState K → Type 0
+  IsHeard tells event old new = OfClient tells event old new ⊎ OfChild tells event old new ⊎ ((event ≡ Stop) × IsOver tells old new)
+
+  -- the event is owed: it has a cause in what was asked and what was heard, and is told once
+  abbrev pub IsOwed : (K → KidTells) → Event → OnceState K → OnceState K → Type 0
+  IsOwed tells event old new = IsDue tells event old new ⊎ IsHeard tells event old new
+
+  -- an event of failure comes only where the count of faults rose
+  pub record Counted (event : Event) (old new : OnceState K) : Type 0 where
+    pub counts : Counts old new
+    pub failure : is_failure event ≡ true → Rose old.faults new.faults
+
+  -- ---- acts
+
+  -- the client was changed so, and nothing else
+  pub record OnClient (R : ClientState → ClientState → Type 0) (old new : OnceState K) : Type 0 where
+    pub changed : R old.client new.client
+    pub same : new ≡ record old { client = new.client }
+
+  -- the children were changed so, and nothing else
+  pub record OnChildren (R : List (Row K) → List (Row K) → Type 0) (old new : OnceState K) : Type 0 where
+    pub changed : R old.rows new.rows
+    pub same : new ≡ record old { rows = new.rows }
+
+  -- a child is to be started, behind the others
+  pub record Asks (k c : ℕ) (launch : Launch) (old new : OnceState K) : Type 0 where
+    pub asked : Asked
+    pub number : asked.k ≡ k
+    pub connection : asked.c ≡ c
+    pub launch_is : asked.launch ≡ launch
+    pub added : new ≡ record old { starts = old.starts ++ asked ∷ [] }
+
+  -- What an act does. There is one client, and each act on a client is on that. An act that finds no room does nothing.
+  abbrev pub Acts : (K → KidTells) → Act → Acted → OnceState K → OnceState K → Type 0
+  Acts tells (Start k c j hop launch) Done old new = Asks k c launch old new
+  Acts tells (Write c bytes) Done old new = OnClient (UnlessShut (Writes bytes)) old new
+  Acts tells (Upgrade c rest) Done old new = OnClient (UnlessShut Upgrades) old new
+  Acts tells (Feed k bytes) Done old new = OnChildren (OnKept (Feeds tells bytes) k) old new
+  Acts tells (Feed k bytes) HasNoRoom old new = OnChildren (OnKept (Feeds tells []) k) old new
+  Acts tells (WantClient c) Done old new = OnClient (UnlessShut WantsMore) old new
+  Acts tells (SaysTexts c texts) Done old new = OnClient (UnlessShut (Frames (sum_by length texts))) old new
+  Acts tells (CloseWs c code) Done old new = OnClient (UnlessShut (Frames 0)) old new
+  Acts tells (Shut c why) Done old new = OnClient Shuts old new
+  Acts tells (EndInput k) Done old new = OnChildren (OnKept (Changes tells end_marks) k) old new
+  Acts tells (WantChild k) Done old new = OnChildren (OnKept (Changes tells want_marks) k) old new
+  Acts tells (Kill k) Done old new = OnChildren (OnKept (Changes tells (λ m. m)) k) old new
+  Acts tells (Release k) Done old new = OnChildren (OnKept (Releases tells) k) old new
+  Acts tells (Start k c j hop launch) HasNoRoom old new = new ≡ old
+  Acts tells (Write c bytes) HasNoRoom old new = new ≡ old
+  Acts tells (Upgrade c rest) HasNoRoom old new = new ≡ old
+  Acts tells _ HasNoRoom old new = ⊥
