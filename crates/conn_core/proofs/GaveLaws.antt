@@ -1,5 +1,5 @@
 -- Acts of one connection, given one after another.
-use Rattle.std.proofs.Common.{◌≡◌, ℕ, ◌+◌, Bool, true, false, ◌&&◌, ◌||◌, ◌==◌, not, ◌≤◌, ◌<◌, ◌^◌, ◌-◌, List, [], ◌∷◌, ◌++◌, map, Option, Some, None, refl, sym, ap, ◌∙◌, subst, append-nil, if◌then◌else◌, arith, length}
+use Rattle.std.proofs.Common.{◌≡◌, ℕ, ◌+◌, Bool, true, false, ◌&&◌, ◌||◌, ◌==◌, not, ◌≤◌, ◌<◌, ◌^◌, ◌-◌, List, [], ◌∷◌, ◌++◌, Option, Some, None, refl, sym, ap, ◌∙◌, subst, append-nil, if◌then◌else◌, length}
 use Rattle.std.specs.List.{list_any}
 use Rattle.std.proofs.lemmas.Bool.{and_from, eq-eqb}
 use Rattle.host_base.specs.declared.launch.Launch.{Launch}
@@ -13,7 +13,7 @@ use Rattle.host_trace.specs.declared.items.Why.{Why}
 use Rattle.host_trace.specs.declared.items.Item.TheVariants.{In, Out}
 use Rattle.host_trace.specs.Told.{Adds, when}
 use Rattle.host_trace.proofs.AddsLaws.{Adds-trans}
-use Rattle.own_traces.specs.Whose.{has, are_of, is_of, kids_after, next_after, next_child, with_child}
+use Rattle.own_traces.specs.Whose.{has, are_of, kids_after, next_after, with_child}
 use Rattle.own_traces.proofs.BlockLaws.{are_of-append, next_after-append}
 use Rattle.child_core.specs.View.{View}
 use Rattle.child_core.specs.Due.{acted, acted_by, acting, acting_by, feed_given, input_given, kill_given, release_given, is_ask_due, is_feed_due, is_input_due, is_kill_due, is_release_due, piece_of}
@@ -26,10 +26,9 @@ use Rattle.trace_model.specs.Exchange.{Exchange, continue_text, pushed, request_
 use Rattle.exchange_request.specs.declared.incoming.Incoming.{Incoming}
 use Rattle.exchange_request.specs.Knows.{Knows, is_ready, is_taken, limits_of}
 use Rattle.exchange_stage.specs.declared.stage.Stage.{Stage}
-use Rattle.conn_front.specs.Front.{Front, IsHeard}
-use Rattle.conn_front.specs.Hearing.{Hears}
+use Rattle.conn_front.specs.Front.{IsHeard}
 use Rattle.conn_front.specs.Laws.{peer_after}
-use Rattle.conn_front.specs.Moves.{Move, Ending, gives, continues, settles, acts_of, moved, AreInStep, AllBelong, Belongs}
+use Rattle.conn_front.specs.Moves.{Move, Ending, gives, continues, settles, acts_of, moved, Belongs}
 use Rattle.conn_front.proofs.FrontLaws.{acts_keep, continues_known, counted_all, events_known, hears_as, known_request, known_same, known_stood, next_known}
 use Rattle.conn_front.proofs.MoveLaws.{acts_of-append, belong_together, in_step_parts, moved-append}
 use Rattle.conn_core.specs.Kept.{AreOwn, Gave, Heard, HeardOwn, HasChildIn, Kept, Leads, Led, StandsFor, Stepped, Turned, Within, front_of, is_reading, is_settled_as, marks_of, number_of, peer_of, site_of}

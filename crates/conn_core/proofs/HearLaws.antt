@@ -12,7 +12,6 @@ use Rattle.exchange_request.specs.declared.incoming.Incoming.{Incoming}
 use Rattle.exchange_request.specs.Knows.{Knows, is_ready, limits_of}
 use Rattle.exchange_stage.specs.declared.stage.Stage.{Stage}
 use Rattle.exchange_stage.specs.declared.stage.Stage.TheVariants.{Reading, Rejected, Interrupted, Refused, Unstarted, Starting, Running, Finishing, Answered, Silent}
-use Rattle.conn_laws.specs.Idle.{left_after}
 use Rattle.conn_front.specs.Front.{Front}
 use Rattle.conn_front.specs.Hearing.{Hears}
 use Rattle.conn_front.specs.Laws.{peer_after}
@@ -20,7 +19,6 @@ use Rattle.conn_core.specs.declared.conn.Conn.{Conn}
 use Rattle.conn_core.specs.Kept.{HasChildIn, HeardOwn, Kept, front_of, is_reading, number_of, peer_of, site_of}
 use Rattle.conn_core.specs.Moves.{IdlesOut, OnlyBody, ticked_stage}
 use Rattle.conn_core.specs.Slot.{run_settled}
-use Rattle.conn_core.proofs.GaveLaws.{kept_same}
 
 or_false : (b : Bool) → (b || false) ≡ b
 or_false true = refl

@@ -1,5 +1,5 @@
 -- What the reply of a leg gives, hands out and fails with.
-use Rattle.std.proofs.Common.{◌≡◌, ℕ, ◌==◌, Bool, true, false, ◌||◌, List, [], ◌∷◌, ◌++◌, length, Option, Some, None, Result, Ok, Err, IfOk, refl, sym, ap, ◌∙◌, subst}
+use Rattle.std.proofs.Common.{◌≡◌, ℕ, ◌==◌, Bool, true, false, ◌||◌, List, [], ◌++◌, length, Option, Some, None, Result, Ok, Err, IfOk, refl, sym, ap, ◌∙◌, subst}
 use Rattle.std.proofs.lemmas.Bool.{false≢true}
 use Rattle.host_base.specs.declared.cause.Cause.{Cause}
 use Rattle.reply_kinds.specs.Derived.{is_header_whole}
@@ -8,7 +8,6 @@ use Rattle.reply_stream.specs.declared.stream.Last.{Last}
 use Rattle.reply_stream.specs.Writing.{Stood, nothing, begun, is_begun}
 use Rattle.exchange_reply.specs.declared.reply.LegReply.{LegReply}
 use Rattle.exchange_reply.specs.Reply.{Fails, Gives, Knows, SpellsFault}
-use Rattle.exchange_reply.specs.Standings.{Ends}
 use Rattle.conn_core.specs.Ready.{EndsAs, HearsPiece, HearsTick}
 
 pub hears_piece : {E : Type 0} (result : Result (List ℕ) E) (old new : LegReply) (piece : List ℕ) (closes : Bool) (now : Option ℕ)

@@ -5,7 +5,7 @@ use Rattle.host_trace.specs.declared.items.Item.{Item}
 use Rattle.host_trace.specs.declared.items.Item.TheVariants.{In, Out}
 use Rattle.host_base.specs.declared.site.Site.{Site}
 use Rattle.host_trace.specs.Projections.{stopped}
-use Rattle.host_trace.specs.Trace.{after_step, end_of, step_of}
+use Rattle.host_trace.specs.Trace.{after_step, step_of}
 use Rattle.trace_child.specs.Words.{implies}
 use Rattle.trace_model.specs.Demands.{is_live as is_live_then}
 use Rattle.trace_model.specs.Steps.{goes_on}

@@ -6,7 +6,6 @@ use Rattle.child_core.specs.Calls.{ended}
 use Rattle.child_core.specs.View.{View}
 use Rattle.request_reader.specs.Request.{is_begun}
 use Rattle.exchange_request.specs.Knows.{Knows, is_ready, limits_of}
-use Rattle.exchange_stage.specs.declared.stage.Leg.{Leg}
 use Rattle.exchange_stage.specs.declared.stage.Stage.{Stage}
 use Rattle.exchange_stage.specs.declared.stage.Stage.TheVariants.{Running, Unstarted}
 use Rattle.conn_front.specs.Front.{Front}

@@ -1,5 +1,5 @@
 -- What is made ready of an exchange's answer.
-use Rattle.std.specs.Prelude.{ℕ, suc, ◌≡◌, Bool, true, false, not, ◌&&◌, ◌||◌, nat_le, List, [], ◌++◌, Option, Some, None, if◌then◌else◌}
+use Rattle.std.specs.Prelude.{ℕ, suc, ◌≡◌, ◌⊎◌, Bool, true, false, not, ◌&&◌, ◌||◌, nat_le, List, [], ◌++◌, Option, Some, None, if◌then◌else◌}
 use Rattle.host_base.specs.declared.cause.Cause.{Cause}
 use Rattle.host_base.specs.declared.cause.Cause.TheVariants.{RedirectLoop}
 use Rattle.host_base.specs.declared.request.Request.{Request}
@@ -16,15 +16,17 @@ use Rattle.child_core.specs.View.{View}
 use Rattle.trace_model.specs.Answer.{request_of_hop}
 use Rattle.trace_model.specs.Closes.{is_nph, persists_by}
 use Rattle.trace_model.specs.Readings.{headed, is_head_request, is_whole}
-use Rattle.exchange_request.specs.Knows.{Knows, is_looked_at, reading_of}
+use Rattle.exchange_request.specs.Knows.{Finds, Knows, is_looked_at, is_ready, limits_of, reading_of}
+use Rattle.exchange_request.specs.declared.found.Found.{Found}
+use Rattle.exchange_request.specs.declared.found.Found.TheVariants as Seen
 use Rattle.exchange_reply.specs.declared.reply.LegReply.{LegReply}
 use Rattle.exchange_reply.specs.Reply.{Gives, Knows as KnowsReply, SpellsFault, closes_of}
 use Rattle.exchange_reply.specs.Standings.{Ends}
 use Rattle.exchange_stage.specs.declared.stage.Leg.{Leg}
 use Rattle.exchange_stage.specs.declared.stage.Stage.{Stage}
-use Rattle.exchange_stage.specs.declared.stage.Stage.TheVariants.{Finishing, Refused, Running, Unstarted}
+use Rattle.exchange_stage.specs.declared.stage.Stage.TheVariants.{Finishing, Refused, Rejected, Running, Unstarted}
 use Rattle.conn_core.specs.declared.conn.Conn.{Conn}
-use Rattle.conn_core.specs.Kept.{site_of}
+use Rattle.conn_core.specs.Kept.{is_reading, site_of}
 
 -- ---- the run
 
@@ -53,6 +55,25 @@ pub record ReadsAll (conn : Conn) (bytes : List ℕ) : Type 0 where
 abbrev pub closes_with : Conn → ScriptKind → List ℕ → Bool
 closes_with conn kind bytes =
     is_nph kind || not (persists_by (headed (reading_of conn.request bytes)) && is_whole (reading_of conn.request bytes))
+
+-- ---- a look at what was heard
+
+abbrev pub LooksTo : Found → Conn → Conn → Type 0
+LooksTo Seen.More old new = new ≡ record old { request = new.request }
+LooksTo (Seen.Ready request) old new = new ≡ record old { request = new.request; stage = Unstarted 0 request }
+LooksTo (Seen.Refused cause bare) old new = new ≡ record old { request = new.request; stage = Rejected cause bare }
+
+-- the request was looked at while it was read, and this was found
+pub record Looks (old new : Conn) : Type 0 where
+  pub reading : is_reading old.stage ≡ true
+  pub found : Found
+  pub to : LooksTo found old new
+  pub limits : limits_of new.request ≡ limits_of old.request
+  pub finds : (bytes : List ℕ) → Knows old.request bytes 0 → is_ready old.request ≡ false → Finds bytes found new.request
+
+-- .. or it was not
+abbrev pub Looked : Conn → Conn → Type 0
+Looked old new = (new ≡ old) ⊎ Looks old new
 
 -- ---- the host's own reply
 

@@ -1,5 +1,5 @@
 -- What a connection holds.
-use Rattle.std.specs.Prelude.{ℕ, Bool, true, not, ◌&&◌, Option, Some, None, if◌then◌else◌}
+use Rattle.std.specs.Prelude.{ℕ, Bool, true, ◌&&◌, Option, Some, None, if◌then◌else◌}
 use Rattle.child_core.specs.View.{View}
 use Rattle.child_core.specs.Calls.{is_settled}
 use Rattle.conn_core.specs.declared.conn.Conn.{Conn}

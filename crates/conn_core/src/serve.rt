@@ -9,6 +9,7 @@ impl<'s> Conn<'s> {
     ghost use Rattle.std.specs.Prelude.{ℕ, ◌≡◌, IfOk};
     ghost use Rattle.std.specs.Prelude.{true, false};
     ghost use Rattle.conn_marks.specs.Form.{may_start};
+    ghost use Rattle.conn_core.specs.Ready.{Looked};
     ghost use Rattle.conn_core.specs.Kept.{Gave, Turned, is_reading, site_of};
     ghost use Rattle.reply_writer.specs.WholeRules.{IsStamp};
     ghost use Rattle.host_base.specs.SiteRules.{IsServed};
@@ -64,7 +65,8 @@ impl<'s> Conn<'s> {
 
     // Looks for a request that can be served.
     fn look(&mut self)
-        ensures { Turned self.old self.new }
+        ensures turned { Turned self.old self.new }
+        ensures looked { self.new.lost ≡ false → Looked self.old self.new }
     {
         if self.is_ending() || !self.is_unread() {
             return;

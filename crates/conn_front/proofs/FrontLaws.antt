@@ -1,9 +1,8 @@
 -- What is known of an exchange, with one item more.
 use Rattle.std.proofs.Common.{◌≡◌, ◌≤◌, ◌<◌, ◌^◌, ℕ, ◌+◌, ◌-◌, Bool, true, false, ◌&&◌, ◌||◌, ◌==◌, not, List, [], ◌∷◌, ◌++◌, drop, Option, Some, None, refl, sym, ap, ◌∙◌, subst, append-nil, append_assoc, is_some, if◌then◌else◌, arith, length}
-use Rattle.std.specs.Prelude.{min, nat_eq}
-use Rattle.std.specs.List.{flat_map, list_any, starts_with}
+use Rattle.std.specs.Prelude.{nat_eq}
+use Rattle.std.specs.List.{list_any, starts_with}
 use Rattle.std.proofs.lemmas.Bool.{false≢true, eq-eqb}
-use Rattle.std.proofs.lemmas.Grind.{flat_map-append}
 use Rattle.host_base.specs.declared.launch.Peer.{Peer}
 use Rattle.host_base.specs.declared.limits.Limits.{Limits}
 use Rattle.host_base.specs.declared.site.Site.{Site}
@@ -14,9 +13,9 @@ use Rattle.host_trace.specs.declared.items.Event.TheVariants.{Accepted, ClientBy
 use Rattle.host_trace.specs.declared.items.Item.{Item}
 use Rattle.host_trace.specs.declared.items.Item.TheVariants.{In, Out}
 use Rattle.host_trace.specs.Account.{has_unsettled}
-use Rattle.host_trace.specs.First.{or_else, first_front}
-use Rattle.host_trace.specs.Kinds.{bytes_heard, bytes_written, is_accepted, is_client_bytes, is_tick, is_upgrade, peer_of_item}
-use Rattle.host_trace.specs.Projections.{client_out, peers, upgraded}
+use Rattle.host_trace.specs.First.{or_else}
+use Rattle.host_trace.specs.Kinds.{bytes_written, is_accepted, is_client_bytes, is_tick, is_upgrade, peer_of_item}
+use Rattle.host_trace.specs.Projections.{peers, upgraded}
 use Rattle.host_trace.proofs.FirstLaws.{first_front-push, flat_map-push}
 use Rattle.host_trace.proofs.ProjectionLaws.{client_out-push, upgraded-push}
 use Rattle.reply_writer.proofs.FrontLaws.{front_is, front_stands}

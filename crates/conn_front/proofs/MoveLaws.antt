@@ -4,9 +4,8 @@ use Rattle.host_base.specs.declared.site.Site.{Site}
 use Rattle.host_trace.specs.declared.items.Act.{Act}
 use Rattle.host_trace.specs.declared.items.Act.TheVariants.{Write}
 use Rattle.host_trace.specs.declared.items.Item.TheVariants.{Out}
-use Rattle.trace_model.specs.Exchange.{Exchange, continue_part, continue_text, final, pushed}
+use Rattle.trace_model.specs.Exchange.{Exchange, continue_part, continue_text, pushed}
 use Rattle.trace_model.specs.Exchanges.{current_after, following, has_ended, next_by}
-use Rattle.trace_model.specs.Standing.{stands_whole}
 use Rattle.conn_laws.proofs.EndLaws.{not_whole}
 use Rattle.conn_front.specs.Moves.{Move, gives, continues, settles, acts_of, moved, AreInStep, AllBelong}
 

@@ -5,8 +5,7 @@ use Rattle.host_base.specs.declared.limits.Limits.{Limits}
 use Rattle.host_trace.specs.declared.items.Item.{Item}
 use Rattle.host_trace.specs.Kinds.{bytes_heard, is_tick}
 use Rattle.request_reader.specs.Request.{is_begun, used_by}
-use Rattle.exchange_request.specs.declared.incoming.Incoming.{Incoming}
-use Rattle.exchange_request.specs.Knows.{Knows, is_ready, is_taken, limits_of, reading_of}
+use Rattle.exchange_request.specs.Knows.{Knows, is_looked_at, is_ready, is_taken, limits_of, reading_of}
 use Rattle.conn_laws.specs.Idle.{left_after}
 use Rattle.conn_front.specs.Front.{Front, counted}
 
@@ -33,5 +32,6 @@ pub record GoesOn (limits : Limits) (old new : Front) : Type 0 where
   pub idled : new.idled ≡ old.idled
   pub limits_then : limits_of new.request ≡ limits_of old.request
   pub ready : is_ready new.request ≡ false
+  pub looked : is_looked_at new.request ≡ false
   pub left_over : (bytes : List ℕ) (taken : ℕ) → Knows old.request bytes taken → is_taken old.request ≡ true
       → Knows new.request (drop (used_by (reading_of old.request bytes)) bytes) 0

@@ -1,12 +1,11 @@
 -- How what a connection knows of its exchange goes on with each item, and with each exchange.
-use Rattle.std.specs.Prelude.{ℕ, ◌≡◌, ◌≤◌, Bool, true, false, not, List, [], ◌∷◌, ◌++◌, Option, Some, None, map}
+use Rattle.std.specs.Prelude.{ℕ, ◌≡◌, ◌≤◌, Bool, true, false, not, List, [], Option, Some, None, map}
 use Rattle.host_base.specs.declared.launch.Peer.{Peer}
 use Rattle.host_base.specs.declared.site.Site.{Site}
 use Rattle.host_trace.specs.declared.items.Act.{Act}
 use Rattle.host_trace.specs.declared.items.Act.TheVariants.{Write}
 use Rattle.host_trace.specs.declared.items.Event.{Event}
 use Rattle.host_trace.specs.declared.items.Event.TheVariants.{Accepted}
-use Rattle.host_trace.specs.declared.items.Item.{Item}
 use Rattle.host_trace.specs.declared.items.Item.TheVariants.{In, Out}
 use Rattle.host_trace.specs.Account.{has_unsettled}
 use Rattle.host_trace.specs.First.{or_else}
@@ -16,7 +15,7 @@ use Rattle.trace_model.specs.Exchanges.{current_after, following, has_ended, nex
 use Rattle.exchange_request.specs.Knows.{is_taken, is_ready, limits_of, Knows}
 use Rattle.conn_front.specs.Front.{Front, KnowsFront}
 use Rattle.conn_front.specs.Hearing.{Hears, GoesOn}
-use Rattle.conn_front.specs.Moves.{Move, Ending, HasEnded, AreInStep, AllBelong, acts_of, moved}
+use Rattle.conn_front.specs.Moves.{Move, Ending, HasEnded, AreInStep, acts_of, moved}
 
 -- ---- the cut
 

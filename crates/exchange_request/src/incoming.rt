@@ -239,6 +239,7 @@ impl Incoming {
     pub fn go_on(&mut self)
         ensures next { (bytes : List ℕ) (taken : ℕ) → Knows self.old bytes taken → is_taken self.old ≡ true
             → Knows self.new (drop (used_by (reading_of self.old bytes)) bytes) 0 }
+        ensures looked { is_looked_at self.new ≡ false }
         ensures ready { is_ready self.new ≡ false }
         ensures limits { limits_of self.new ≡ limits_of self.old }
     {

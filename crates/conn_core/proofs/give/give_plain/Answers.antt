@@ -1,4 +1,3 @@
-use Rattle.std.proofs.Common.{◌≡◌}
 use Rattle.conn_core.proofs.give.give_plain.Goals as goal
 
 pub returns-clause-told : goal.returns-clause-told

@@ -1,6 +1,4 @@
-use Rattle.std.proofs.Common.{refl, sym, subst}
-use Rattle.host_trace.specs.declared.items.Act.TheVariants.{WantClient, Shut}
-use Rattle.conn_core.proofs.GaveLaws.{gave_after, gave_before, gave_plain, gave_then}
+use Rattle.conn_core.proofs.GaveLaws.{gave_after, gave_then}
 use Rattle.conn_core.proofs.conn.Conn.act_run_or_lose.Goals as goal
 
 pub returns-clause-gave : goal.returns-clause-gave

@@ -1,4 +1,4 @@
-use Rattle.std.proofs.Common.{refl, sym, ap, Some, ◌∙◌, ◌≡◌, ◌+◌, ◌<◌, ◌^◌, ◌-◌, subst, arith, ℕ}
+use Rattle.std.proofs.Common.{refl, ap, ◌∙◌, ◌≡◌, ◌+◌, ◌<◌, ◌^◌, ◌-◌, subst, arith, ℕ}
 use Rattle.conn_marks.proofs.KnowsLaws.{start_allowed}
 use Rattle.conn_core.specs.declared.conn.Conn.{Conn}
 use Rattle.conn_core.specs.Kept.{Gave, front_of, is_reading}

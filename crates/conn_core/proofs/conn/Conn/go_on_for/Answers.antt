@@ -1,7 +1,4 @@
-use Rattle.std.proofs.Common.{refl, sym, subst, ◌∙◌, ◌≡◌}
-use Rattle.host_base.specs.declared.site.Site.{Site}
-use Rattle.host_base.specs.SiteRules.{IsServed}
-use Rattle.conn_core.specs.Kept.{site_of}
+use Rattle.std.proofs.Common.{refl, ◌∙◌}
 use Rattle.conn_core.proofs.GaveLaws.{gave_none, gave_then, kept_same}
 use Rattle.conn_core.proofs.conn.Conn.go_on_for.Goals as goal
 

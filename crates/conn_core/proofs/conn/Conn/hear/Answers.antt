@@ -1,4 +1,3 @@
-use Rattle.std.proofs.Common.{refl}
 use Rattle.conn_core.proofs.GaveLaws.{heard_by}
 use Rattle.conn_core.proofs.conn.Conn.hear.Goals as goal
 

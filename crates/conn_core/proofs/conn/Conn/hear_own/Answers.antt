@@ -1,7 +1,5 @@
-use Rattle.std.proofs.Common.{refl, sym, ap, subst, ◌∙◌, ◌≡◌}
+use Rattle.std.proofs.Common.{refl, sym, subst, ◌∙◌}
 use Rattle.host_trace.specs.declared.items.Event.{Event}
-use Rattle.host_trace.specs.declared.items.Event.TheVariants.{Accepted, ClientBytes}
-use Rattle.conn_core.specs.declared.conn.Conn.{Conn}
 use Rattle.conn_core.specs.Kept.{HeardOwn}
 use Rattle.conn_core.proofs.GaveLaws.{kept_same}
 use Rattle.conn_core.proofs.HearLaws.{heard_kept, is_gone, is_other, is_others_bytes}

@@ -1,4 +1,4 @@
-use Rattle.std.proofs.Common.{ℕ, List, length, ◌==◌, sym, ap, subst, ◌∙◌}
+use Rattle.std.proofs.Common.{ℕ, List, length, ◌==◌, ap, subst, ◌∙◌}
 use Rattle.std.proofs.lemmas.Bool.{false≢true}
 use Rattle.exchange_reply.specs.declared.reply.LegReply.{LegReply}
 use Rattle.conn_core.specs.Ready.{HearsTick}

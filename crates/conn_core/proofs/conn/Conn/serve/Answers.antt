@@ -1,8 +1,6 @@
-use Rattle.std.proofs.Common.{refl, sym, subst, ◌∙◌, ◌≡◌}
-use Rattle.host_base.specs.declared.site.Site.{Site}
+use Rattle.std.proofs.Common.{sym, subst, ◌∙◌}
 use Rattle.host_base.specs.SiteRules.{IsServed}
-use Rattle.conn_core.specs.Kept.{site_of}
-use Rattle.conn_core.proofs.GaveLaws.{gave_after, gave_before, gave_then}
+use Rattle.conn_core.proofs.GaveLaws.{gave_then}
 use Rattle.conn_core.proofs.conn.Conn.serve.Goals as goal
 
 pub go_on_for-requires-clause-served : goal.go_on_for-requires-clause-served

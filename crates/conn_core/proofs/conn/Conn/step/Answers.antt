@@ -1,4 +1,3 @@
-use Rattle.std.proofs.Common.{refl, sym, subst, ◌∙◌, ◌≡◌}
 use Rattle.conn_core.proofs.GaveLaws.{gave_then, stepped}
 use Rattle.conn_core.proofs.conn.Conn.step.Goals as goal
 

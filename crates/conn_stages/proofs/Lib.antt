@@ -1,0 +1,5 @@
+pub mod StagedLaws
+pub mod HopLaws
+pub mod EndLaws
+pub mod ItemLaws
+pub mod LookLaws

@@ -1,0 +1,108 @@
+-- What a connection makes ready leads from stage to stage.
+use Rattle.std.specs.Prelude.{ℕ, ◌≡◌, ◌≤◌, Bool, true, false, List, [], ◌∷◌, ◌++◌, Option, Some}
+use Rattle.std.specs.List.{list_any}
+use Rattle.host_base.specs.declared.launch.Launch.{Launch}
+use Rattle.host_trace.specs.declared.items.Act.{Act}
+use Rattle.host_trace.specs.declared.items.Act.TheVariants.{Start, Write}
+use Rattle.host_trace.specs.declared.items.Item.TheVariants.{Out}
+use Rattle.host_trace.specs.Kinds.{bytes_written, child_started, names_child}
+use Rattle.child_core.specs.View.{View}
+use Rattle.trace_model.specs.Exchange.{Exchange, continue_text, pushed}
+use Rattle.trace_model.specs.Exchanges.{following, has_ended}
+use Rattle.trace_model.specs.Standing.{stands_whole}
+use Rattle.child_core.specs.Due.{acted, acting}
+use Rattle.trace_model.specs.Legs.{Leg as Started}
+use Rattle.conn_core.specs.declared.conn.Conn.{Conn}
+use Rattle.exchange_reply.specs.StepRules.{wrote}
+use Rattle.exchange_stage.specs.declared.stage.Leg.{Leg}
+use Rattle.exchange_stage.specs.declared.stage.Stage.TheVariants.{Finishing, Running, Starting}
+use Rattle.exchange_stage.specs.Items.{is_calm, is_unanswered}
+use Rattle.exchange_stage.specs.OfRun.{leg_held}
+use Rattle.exchange_stage.specs.Rules.{IsUnended}
+use Rattle.exchange_stage.specs.Unanswered.{is_awaited}
+use Rattle.conn_children.specs.Children.{KnowsChildren}
+use Rattle.conn_children.specs.Laws.{with_acts}
+use Rattle.conn_front.specs.Moves.{HasEnded}
+use Rattle.conn_core.specs.Begins.{ReadiesAnswer, ReadiesHop}
+use Rattle.conn_core.specs.Kept.{StandsFor, number_of, site_of}
+use Rattle.conn_core.specs.Moves.{losing}
+use Rattle.conn_core.specs.Ready.{Looked}
+use Rattle.conn_core.specs.Settles.{Follows, is_answered, is_over, stood}
+use Rattle.conn_core.specs.Writes.{continued, wrote as wrote_of}
+use Rattle.conn_stages.specs.Staged.{Lost, MayAnswer, MayHop, MaySettle, Staged, ending_of}
+
+-- A look at what was heard ..
+abbrev pub LooksAreStaged : Type 0
+LooksAreStaged = (old new : Conn) (e : Exchange) (legs : List Started) → StandsFor old e → Staged old e legs → old.lost ≡ false → e.closed ≡ false
+    → Looked old new → Staged new e legs
+
+-- .. what is made ready of an answer ..
+abbrev pub AnswersAreStaged : Type 0
+AnswersAreStaged = (old new : Conn) (stamp : Option ℕ) (e : Exchange) (legs : List Started) → MayAnswer old e legs stamp
+    → ReadiesAnswer old.stage stamp old new → Staged new e legs
+
+-- .. and of a hop.
+abbrev pub HopsAreStaged : Type 0
+HopsAreStaged = (old new : Conn) (stamp : Option ℕ) (e : Exchange) (legs : List Started) → MayHop old e legs stamp
+    → ReadiesHop old.stage stamp old new → Staged new e legs
+
+-- ---- the end of an exchange
+
+-- The exchange has ended exactly where the connection takes it for ended, unless the whole output of a run stands already
+-- that is not taken for its end yet.
+abbrev pub EndsAreTaken : Type 0
+EndsAreTaken = (conn : Conn) (e : Exchange) (legs : List Started) (early : Bool) (next : ℕ) → Staged conn e legs
+    → KnowsChildren (site_of conn) (number_of conn) e early next legs conn.run → IsUnended (site_of conn) (number_of conn) e legs conn.stage
+    → has_ended (site_of conn) (number_of conn) e ≡ is_over conn
+
+-- .. and then what is held of it is so.
+abbrev pub EndsAreNoticed : Type 0
+EndsAreNoticed = (conn : Conn) (e : Exchange) (legs : List Started) → 2 ≤ (site_of conn).limits.head → MaySettle conn e legs → is_over conn ≡ true
+    → HasEnded (site_of conn) (number_of conn) e (ending_of conn)
+
+-- ---- acts
+
+-- 100 Continue ..
+abbrev pub ContinuesAreStaged : Type 0
+ContinuesAreStaged = (conn : Conn) (e : Exchange) (legs : List Started) → 2 ≤ (site_of conn).limits.head → Staged conn e legs → is_unanswered conn.stage ≡ true
+    → conn.continued ≡ false → is_awaited (site_of conn) (number_of conn) e ≡ true
+    → Staged (continued true conn) (pushed e (Out (Write (number_of conn) continue_text))) legs
+
+-- .. a part of a reply ..
+abbrev pub PartsAreStaged : Type 0
+PartsAreStaged = (conn : Conn) (e : Exchange) (legs : List Started) (leg : Leg) → 2 ≤ (site_of conn).limits.head → Staged conn e legs → conn.stage ≡ Running leg
+    → Staged (record (wrote_of leg.text true conn) { stage = Running (record leg { text = [] }) }) (wrote (number_of conn) e leg.text) legs
+
+-- .. the rest of an answer ..
+abbrev pub RestsAreStaged : Type 0
+RestsAreStaged = (conn : Conn) (e : Exchange) (legs : List Started) (text : List ℕ) (closes : Bool) → 2 ≤ (site_of conn).limits.head → Staged conn e legs
+    → conn.stage ≡ Finishing text closes → conn.closes ≡ false → Staged (stood closes (wrote_of text true conn)) (wrote (number_of conn) e text) legs
+
+-- .. and a Start, by a number that no item names.
+abbrev pub StartsAreStaged : Type 0
+StartsAreStaged = (conn : Conn) (e : Exchange) (legs : List Started) (leg : Leg) (launch : Launch) (body : List ℕ) (whole : Bool) (v : View) → 2 ≤ (site_of conn).limits.head
+    → Staged conn e legs → conn.stage ≡ Starting leg launch body whole → list_any (names_child v.number) e.items ≡ false → v.output ≡ []
+    → Staged (record conn { run = Some v; stage = Running leg }) (pushed e (Out (Start v.number (number_of conn) e.number leg.hop launch))) (legs ++ leg_held leg v.number ∷ [])
+
+-- An act that is none of these leaves the stage ..
+abbrev pub OthersAreStaged : Type 0
+OthersAreStaged = (conn : Conn) (e : Exchange) (legs : List Started) (act : Act) → 2 ≤ (site_of conn).limits.head → Staged conn e legs → is_calm legs conn.stage ≡ true
+    → bytes_written (number_of conn) (Out act) ≡ [] → child_started (number_of conn) (Out act) ≡ [] → Staged conn (pushed e (Out act)) legs
+
+-- .. and so do all that are due for the child.
+abbrev pub ServesAreStaged : Type 0
+ServesAreStaged = (conn : Conn) (e : Exchange) (legs : List Started) (may : Bool) (v : View) → 2 ≤ (site_of conn).limits.head → Staged conn e legs
+    → is_calm legs conn.stage ≡ true → conn.run ≡ Some v → Staged (record conn { run = Some (acted may v) }) (with_acts e (acting may v)) legs
+
+-- ---- the next exchange
+
+-- The exchange that follows one that has ended is read.
+abbrev pub NextAreStaged : Type 0
+NextAreStaged = (old new : Conn) (e : Exchange) (legs : List Started) → Staged old e legs → is_over old ≡ true → has_ended (site_of old) (number_of old) e ≡ true
+    → Follows old new → Staged new (following (site_of old) (number_of old) e) []
+
+-- ---- memory is wanting
+
+abbrev pub LossesAreStaged : Type 0
+LossesAreStaged = (conn : Conn) (e : Exchange) (legs : List Started) → Staged conn e legs
+    → (is_answered conn.stage ≡ false → stands_whole (site_of conn) (number_of conn) e ≡ false) → Lost (losing conn) e legs

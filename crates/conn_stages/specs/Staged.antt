@@ -1,0 +1,77 @@
+-- The stage that a connection holds, in the words of the model.
+use Rattle.std.specs.Prelude.{ℕ, ◌≡◌, Bool, true, false, ◌||◌, nat_lt, List, [], Option}
+use Rattle.host_base.specs.declared.cause.Cause.{Cause}
+use Rattle.host_base.specs.declared.request.Request.{Request}
+use Rattle.host_trace.specs.Projections.{last_secs}
+use Rattle.trace_model.specs.Demands.{may_go_on}
+use Rattle.trace_model.specs.Exchange.{Exchange, all_of, reading, up_to}
+use Rattle.trace_model.specs.Legs.{Leg as Started, offered_at}
+use Rattle.trace_model.specs.Readings.{is_bare}
+use Rattle.exchange_request.specs.Knows.{bare_of, is_looked_at, is_taken}
+use Rattle.exchange_reply.specs.StepRules.{is_continued}
+use Rattle.exchange_stage.specs.declared.stage.Leg.{Leg}
+use Rattle.exchange_stage.specs.declared.stage.Stage.TheVariants.{Interrupted, Running, Unstarted}
+use Rattle.exchange_stage.specs.Moves.{IsShort}
+use Rattle.exchange_stage.specs.StageIs.{LostIs, StageIs}
+use Rattle.conn_front.specs.Moves.{Ending}
+use Rattle.conn_children.specs.Children.{KnowsChildren}
+use Rattle.conn_core.specs.declared.conn.Conn.{Conn}
+use Rattle.conn_core.specs.Kept.{StandsFor, number_of, site_of}
+use Rattle.conn_core.specs.Ready.{undrained}
+
+-- its stage is that of this exchange, for which these legs were started
+abbrev pub Staged : Conn → Exchange → List Started → Type 0
+Staged conn e legs =
+    StageIs (site_of conn) (number_of conn) e legs conn.continued (is_looked_at conn.request) (conn.closing || conn.closes) (undrained conn.run) conn.stage
+
+-- An answer, or a hop, may be made ready: memory was found, all that was heard was looked at, 100 Continue stands where
+-- it was due, and no earlier answer closes the connection.
+pub record MayReady (conn : Conn) (e : Exchange) (legs : List Started) (stamp : Option ℕ) : Type 0 where
+  pub front : StandsFor conn e
+  pub staged : Staged conn e legs
+  pub next : ℕ
+  pub children : KnowsChildren (site_of conn) (number_of conn) e false next legs conn.run
+  pub found : conn.lost ≡ false
+  pub looked : is_looked_at conn.request ≡ true
+  pub unclosed : e.closed ≡ false
+  pub let_on : is_continued (site_of conn) (number_of conn) e ≡ true
+  pub stamp_is : stamp ≡ last_secs (all_of e)
+
+-- .. of an answer: whether its request is bare is known where it was broken; of a reply all was written that was handed
+-- out, and what came comes by itself
+pub record MayAnswer (conn : Conn) (e : Exchange) (legs : List Started) (stamp : Option ℕ) : Type 0 where
+  pub may : MayReady conn e legs stamp
+  pub short : IsShort (site_of conn) (number_of conn) e legs
+  pub bare : (cause : Cause) → conn.stage ≡ Interrupted cause → bare_of conn.request ≡ is_bare (reading (site_of conn) (number_of conn) e)
+  pub written : (leg : Leg) → conn.stage ≡ Running leg → leg.text ≡ []
+  pub apart : (leg : Leg) → conn.stage ≡ Running leg → leg.ticked ≡ true → undrained conn.run ≡ []
+
+-- .. of a hop: it may begin, and what came of the body is at hand
+pub record MayHop (conn : Conn) (e : Exchange) (legs : List Started) (stamp : Option ℕ) : Type 0 where
+  pub may : MayReady conn e legs stamp
+  pub turn : may_go_on (number_of conn) e ≡ true
+  pub offers : (hop : ℕ) (request : Request) → conn.stage ≡ Unstarted hop request
+      → offered_at (site_of conn) (number_of conn) (up_to e []) hop e.items ≡ record { body = request.body; whole = nat_lt 0 hop || is_taken conn.request }
+
+-- ---- the end of an exchange
+
+-- what is held of it
+abbrev pub ending_of : Conn → Ending
+ending_of conn = record { closes = conn.closes; idled = conn.idled; lost = conn.lost; taken = is_taken conn.request }
+
+-- The exchange may be taken for ended: no request went without a beginning for the idle time, and all that was heard was
+-- looked at, or the request was read to its end.
+pub record MaySettle (conn : Conn) (e : Exchange) (legs : List Started) : Type 0 where
+  pub front : StandsFor conn e
+  pub staged : Staged conn e legs
+  pub early : Bool
+  pub next : ℕ
+  pub children : KnowsChildren (site_of conn) (number_of conn) e early next legs conn.run
+  pub calm : conn.idled ≡ false
+  pub looked : (is_looked_at conn.request || is_taken conn.request) ≡ true
+
+-- ---- memory was wanting
+
+-- its stage is what is known then
+abbrev pub Lost : Conn → Exchange → List Started → Type 0
+Lost conn e legs = LostIs (site_of conn) (number_of conn) e legs conn.continued (conn.closing || conn.closes) conn.stage

@@ -1,0 +1,67 @@
+// Laws of the stage that a connection holds. Each function is one law, and does nothing.
+ghost use Rattle.conn_stages.specs.Laws.{AnswersAreStaged, ContinuesAreStaged, EndsAreNoticed, EndsAreTaken, HopsAreStaged, LooksAreStaged, LossesAreStaged, NextAreStaged, OthersAreStaged, PartsAreStaged, RestsAreStaged, ServesAreStaged, StartsAreStaged};
+
+/// What is made ready of an answer leads to the stage that the model says.
+pub fn answers_are_staged()
+    ensures { AnswersAreStaged }
+{}
+
+/// So does what is made ready of a hop.
+pub fn hops_are_staged()
+    ensures { HopsAreStaged }
+{}
+
+/// An exchange has ended exactly where its connection takes it for ended.
+pub fn ends_are_taken()
+    ensures { EndsAreTaken }
+{}
+
+/// What is held of an exchange that has ended is so.
+pub fn ends_are_noticed()
+    ensures { EndsAreNoticed }
+{}
+
+/// 100 Continue leaves the stage.
+pub fn continues_are_staged()
+    ensures { ContinuesAreStaged }
+{}
+
+/// A part of a reply is written.
+pub fn parts_are_staged()
+    ensures { PartsAreStaged }
+{}
+
+/// With the rest of an answer it stands whole.
+pub fn rests_are_staged()
+    ensures { RestsAreStaged }
+{}
+
+/// With its Start a script runs.
+pub fn starts_are_staged()
+    ensures { StartsAreStaged }
+{}
+
+/// An act that writes nothing and starts no script leaves the stage.
+pub fn others_are_staged()
+    ensures { OthersAreStaged }
+{}
+
+/// So do the acts that are due for the child.
+pub fn serves_are_staged()
+    ensures { ServesAreStaged }
+{}
+
+/// The exchange that follows is read.
+pub fn next_are_staged()
+    ensures { NextAreStaged }
+{}
+
+/// What is known of the stage where memory is wanting.
+pub fn losses_are_staged()
+    ensures { LossesAreStaged }
+{}
+
+/// A look at what was heard finds the stage that the model says.
+pub fn looks_are_staged()
+    ensures { LooksAreStaged }
+{}
