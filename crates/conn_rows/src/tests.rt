@@ -1,4 +1,5 @@
 // What one connection does, step by step.
+mod launches;
 mod long;
 mod memory;
 mod pieces;

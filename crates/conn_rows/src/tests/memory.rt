@@ -9,26 +9,30 @@ use site_file::read_site;
 use std::alloc::Global;
 use std::test::Fail;
 
-fn may_follow(line: &str) -> bool {
-    line.is_empty()
-        || line == "--"
-        || line.starts_with("EndInput")
-        || line.starts_with("Kill")
-        || line.starts_with("Release")
+// What may stand behind the refused act up to the end of its step.
+fn may_stand(line: &str) -> bool {
+    line.starts_with("EndInput") || line.starts_with("Kill") || line.starts_with("Release")
 }
 
-// The connection was shut for want of memory, once.
-fn is_shut(log: &str) -> bool {
+// From the refused act on: the child is given up, the connection shut in the same step, and nothing else follows.
+fn is_given_up(lines: &str) -> bool {
     let mut shut = false;
-    for line in log.split('\n') {
-        if shut && !may_follow(line) {
-            return false;
-        }
-        if line == "Shut NoMemory" {
+    for line in lines.split('\n') {
+        if line == "Shut NoMemory" && !shut {
             shut = true;
+        } else if !may_stand(line) && (!shut || !line.is_empty() && line != "--") {
+            return false;
         }
     }
     shut
+}
+
+// The connection was shut for want of memory in the step of the refused act.
+fn is_shut(log: &str) -> bool {
+    match log.split_once("no room\n") {
+        Some((before, behind)) => !before.contains("Shut NoMemory") && is_given_up(behind),
+        None => false,
+    }
 }
 
 // The number of the first refused act after which a row goes on.

@@ -18,6 +18,10 @@ fn other(alloc: Global, site: &Site, rows: &[Row]) -> Result<&'static str, NoMem
         if whole.wrote.as_slice() != single.wrote.as_slice() {
             return Ok(row.name);
         }
+        // as many children are started, with the same
+        if whole.launched.as_str() != single.launched.as_str() {
+            return Ok(row.name);
+        }
     }
     Ok("")
 }

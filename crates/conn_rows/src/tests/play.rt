@@ -83,7 +83,7 @@ pub struct Script {
 }
 
 // What the clock shows, where a date can name it.
-fn stamp_of(clock: Option<u64>) -> Option<u64>
+pub fn stamp_of(clock: Option<u64>) -> Option<u64>
     ensures { IsStamp result }
 {
     match clock {

@@ -1,7 +1,7 @@
 // An outside that writes down what it is asked for, and tells no trace.
 ghost use Rattle.std.specs.Prelude.{None};
 
-use host_base::{Bytes, NoMemory};
+use host_base::{Bytes, Launch, NoMemory};
 use host_trace::{Act, Acted, Event, Outside, Why};
 use std::alloc::Global;
 
@@ -11,6 +11,10 @@ pub struct Recorder {
     pub log: String,
     // All bytes written.
     pub wrote: Bytes,
+    // All bytes fed.
+    pub fed: Bytes,
+    // What children are started with: program, folder, arguments and variables, one a line.
+    pub launched: String,
     // Acts that carry something, so far.
     pub carried: u32,
     // The one of them that finds no room.
@@ -19,7 +23,7 @@ pub struct Recorder {
     pub failed: bool,
 }
 
-fn why_text(why: Why) -> &'static str {
+pub fn why_text(why: Why) -> &'static str {
     match why {
         Why::Done => "Done",
         Why::Gone => "Gone",
@@ -36,12 +40,20 @@ fn bytes_text(alloc: Global, bytes: &Bytes) -> Result<String, NoMemory> {
     Ok(String::from_str(alloc, text.as_str())?)
 }
 
+pub fn push_line(text: &mut String, line: &str) -> Result<(), NoMemory> {
+    text.push_str(line)?;
+    text.push('\n')?;
+    Ok(())
+}
+
 impl Recorder {
     pub fn new(alloc: Global, refused: Option<u32>) -> Self {
         Recorder {
             alloc,
             log: String::new(alloc),
             wrote: Bytes::new(alloc),
+            fed: Bytes::new(alloc),
+            launched: String::new(alloc),
             carried: 0,
             refused,
             failed: false,
@@ -49,8 +61,20 @@ impl Recorder {
     }
 
     fn line(&mut self, text: String) -> Result<(), NoMemory> {
-        self.log.push_str(text.as_str())?;
-        self.log.push('\n')?;
+        push_line(&mut self.log, text.as_str())
+    }
+
+    fn launch(&mut self, launch: &Launch) -> Result<(), NoMemory> {
+        push_line(&mut self.launched, launch.program.as_str())?;
+        push_line(&mut self.launched, launch.dir.as_str())?;
+        for arg in launch.args.as_slice() {
+            push_line(&mut self.launched, arg.as_str())?;
+        }
+        for pair in launch.env.as_slice() {
+            self.launched.push_str(pair.name.as_str())?;
+            self.launched.push('=')?;
+            push_line(&mut self.launched, pair.value.as_str())?;
+        }
         Ok(())
     }
 
@@ -84,6 +108,7 @@ impl Recorder {
                 launch,
                 ..
             } => {
+                self.launch(launch)?;
                 self.line(format!(in alloc;
                     "Start {} {} {} {}",
                     *k,
@@ -92,7 +117,10 @@ impl Recorder {
                     launch.program.as_str()
                 )?)
             }
-            Act::Feed { k, bytes } => self.line(format!(in alloc; "Feed {} {}", *k, bytes.len())?),
+            Act::Feed { k, bytes } => {
+                self.fed.extend_from_slice(bytes.as_slice())?;
+                self.line(format!(in alloc; "Feed {} {}", *k, bytes.len())?)
+            }
             Act::EndInput { k } => self.line(format!(in alloc; "EndInput {}", *k)?),
             Act::WantChild { k } => self.line(format!(in alloc; "WantChild {}", *k)?),
             Act::Kill { k } => self.line(format!(in alloc; "Kill {}", *k)?),
@@ -127,6 +155,7 @@ impl Outside for Recorder {
                 | Act::Says { .. }
         );
         if carries && self.refuses() {
+            self.failed |= push_line(&mut self.log, "no room").is_err();
             return Acted::NoRoom;
         }
         if self.note(act).is_err() {

@@ -22,7 +22,7 @@ const OK_OPEN: &str =
 const NO_OUTPUT: &str =
     "Write HTTP/1.1 502 Bad Gateway\r\nContent-Type: text/plain\r\nContent-Length: 22\r\nConnection: close\r\n\r\nscript gave no output\n";
 
-pub const ROWS: [Row; 26] = [
+pub const ROWS: [Row; 30] = [
     Row {
         name: "one GET",
         beats: &[
@@ -137,6 +137,34 @@ pub const ROWS: [Row; 26] = [
                 ],
             ),
             (OutEnd(0), &["Shut Done"]),
+        ],
+    },
+    Row {
+        name: "a request of HTTP/1.0",
+        beats: &[
+            (Accept, &["WantClient"]),
+            (Client("GET /cgi-bin/hello HTTP/1.0\r\n\r\n"), &[START]),
+            (Started(0), &["EndInput 0", "WantChild 0"]),
+            (Out(0, HI), &["WantChild 0"]),
+            (OutEnd(0), &[OK, "Shut Done"]),
+            (Exited(0), &[]),
+        ],
+    },
+    Row {
+        name: "a reply in chunks to its end",
+        beats: &[
+            (Accept, &["WantClient"]),
+            (Client(P), &[START]),
+            (Started(0), &["EndInput 0", "WantChild 0"]),
+            (Out(0, HI), &["WantChild 0"]),
+            (
+                Tick(784111777),
+                &[
+                    "Write HTTP/1.1 200 OK\r\nContent-Type: text/plain\r\nDate: Sun, 06 Nov 1994 08:49:37 GMT\r\nTransfer-Encoding: chunked\r\nConnection: close\r\n\r\n3\r\nhi\n\r\n",
+                ],
+            ),
+            (OutEnd(0), &["Write 0\r\n\r\n", "Shut Done"]),
+            (Exited(0), &[]),
         ],
     },
     Row {
@@ -443,6 +471,50 @@ pub const ROWS: [Row; 26] = [
             (Out(1, HI), &["WantChild 1"]),
             (OutEnd(1), &[OK_OPEN]),
             (Exited(1), &["WantClient"]),
+        ],
+    },
+    Row {
+        name: "the end of the input settles a child, and its redirect is refused",
+        beats: &[
+            (Accept, &["WantClient"]),
+            (
+                Client("POST /cgi-bin/form HTTP/1.1\r\nHost: a\r\nContent-Length: 3\r\n\r\n"),
+                &["Start 0 0 0 /srv/cgi/form", "WantClient"],
+            ),
+            (Started(0), &["WantChild 0"]),
+            (Exited(0), &[]),
+            (Out(0, "Location: /none\n\n"), &["WantChild 0"]),
+            (
+                OutEnd(0),
+                &[
+                    "EndInput 0",
+                    "Write HTTP/1.1 404 Not Found\r\nContent-Type: text/plain\r\nContent-Length: 24\r\nConnection: close\r\n\r\nno script for this path\n",
+                    "Shut Done",
+                ],
+            ),
+        ],
+    },
+    Row {
+        name: "an exited child is released, and the next request refused",
+        beats: &[
+            (Accept, &["WantClient"]),
+            (
+                Client(
+                    "GET /cgi-bin/hello HTTP/1.1\r\nHost: a\r\n\r\nGET /none HTTP/1.1\r\nHost: a\r\n\r\n",
+                ),
+                &[START],
+            ),
+            (Started(0), &["EndInput 0", "WantChild 0"]),
+            (Out(0, HI), &["WantChild 0"]),
+            (Exited(0), &[]),
+            (
+                OutEnd(0),
+                &[
+                    OK_OPEN,
+                    "Write HTTP/1.1 404 Not Found\r\nContent-Type: text/plain\r\nContent-Length: 24\r\n\r\nno script for this path\n",
+                    "WantClient",
+                ],
+            ),
         ],
     },
 ];

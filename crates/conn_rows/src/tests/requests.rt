@@ -30,7 +30,7 @@ const TOO_SLOW: &str =
 
 const CONTINUE: &str = "Write HTTP/1.1 100 Continue\r\n\r\n";
 
-pub const ROWS: [Row; 17] = [
+pub const ROWS: [Row; 18] = [
     Row {
         name: "the client ends within a head",
         beats: &[
@@ -134,6 +134,26 @@ pub const ROWS: [Row; 17] = [
                 Client("GET /a%zz HTTP/1.1\r\nHost: a\r\nConnection: close\r\n\r\n"),
                 &[BAD_PATH, "Shut Done"],
             ),
+        ],
+    },
+    Row {
+        name: "dots within a path",
+        beats: &[
+            (Accept, &["WantClient"]),
+            (
+                Client("GET /x/../cgi-bin/hello HTTP/1.1\r\nHost: a\r\nConnection: close\r\n\r\n"),
+                &["Start 0 0 0 /srv/cgi/hello"],
+            ),
+            (Started(0), &["EndInput 0", "WantChild 0"]),
+            (Out(0, "Content-Type: text/plain\n\nhi\n"), &["WantChild 0"]),
+            (
+                OutEnd(0),
+                &[
+                    "Write HTTP/1.1 200 OK\r\nContent-Type: text/plain\r\nContent-Length: 3\r\nConnection: close\r\n\r\nhi\n",
+                    "Shut Done",
+                ],
+            ),
+            (Exited(0), &[]),
         ],
     },
     Row {
