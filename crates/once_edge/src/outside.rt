@@ -17,10 +17,10 @@ use std::time::{Clock, Duration};
 // How many bytes of the client are read at a time.
 const PIECE: usize = 65_536;
 
-// The shortest and the longest sleep, in milliseconds. What the bell doesn't tell, as an exit, is asked for after each.
-const LEAST: u64 = 1;
+// The shortest and the longest sleep, in microseconds. What the bell doesn't tell, as an exit, is asked for after each.
+const LEAST: u64 = 100;
 
-const MOST: u64 = 100;
+const MOST: u64 = 100_000;
 
 /// One connection and its children. It has no clock.
 #[derive(Drop)]
@@ -29,7 +29,7 @@ pub struct OnceOutside<R, S: Spawner, P: PipeIn + Drop, K: Sink> {
     alloc: Global,
     // What wakes it: the pumps of the client and of the children.
     sleeper: Parker,
-    // How many milliseconds it sleeps next.
+    // How many microseconds it sleeps next.
     pause: u64,
     client: Client<StdioSocket<P, K>>,
     children: ChildSet<S>,
@@ -157,7 +157,7 @@ impl<
         ensures { self.new ≡ self.old }
     {
         self.sleeper
-            .park_timeout(&self.rt, Duration::from_millis(self.pause));
+            .park_timeout(&self.rt, Duration::from_micros(self.pause));
         self.pause = self.pause.saturating_mul(2).min(MOST);
     }
 

@@ -1,17 +1,18 @@
 // When a child is asked for its exit.
 use std::time::{Clock, Duration};
 
-// The shortest and the longest distance between two asks.
-const LEAST: u64 = 1;
+// The shortest and the longest distance between two asks, in microseconds. A small program closes its output some tens
+// of them before it can be reaped.
+const LEAST: u64 = 100;
 
-const MOST: u64 = 100;
+const MOST: u64 = 100_000;
 
 /// While a child is at work it is asked once in the longest distance. Once it is to leave, it is asked at once,
 /// and then at distances that grow from the shortest to the longest.
 #[derive(Drop)]
 pub struct Pace {
     is_leaving: bool,
-    /// Milliseconds.
+    /// Microseconds.
     distance: u64,
     /// What the clock is to show before the next ask.
     next: Duration,
@@ -43,7 +44,7 @@ impl Pace {
         if now < self.next {
             return false;
         }
-        self.next = now.saturating_add(Duration::from_millis(self.distance));
+        self.next = now.saturating_add(Duration::from_micros(self.distance));
         self.distance = self.distance.saturating_mul(2).min(MOST);
         true
     }
