@@ -85,6 +85,32 @@ fn a_whole_request(rt: HostRuntime) -> Result<(), Fail> {
 }
 
 #[test]
+fn a_path_that_goes_on_behind_its_script(rt: HostRuntime) -> Result<(), Fail> {
+    let request = b"GET /cgi-bin/hello/a%20b/?x=1 HTTP/1.1\r\nHost: example.com:8080\r\n\r\n";
+    explains(
+        &rt,
+        rt.alloc(),
+        &[Heard::Accepted, Heard::Request(request)],
+        "program /srv/cgi/hello
+dir /srv/cgi
+env GATEWAY_INTERFACE=CGI/1.1
+env PATH_INFO=/a b/
+env PATH_TRANSLATED=/srv/www/a b/
+env QUERY_STRING=x=1
+env REMOTE_ADDR=192.0.2.1
+env REMOTE_HOST=192.0.2.1
+env REQUEST_METHOD=GET
+env SCRIPT_NAME=/cgi-bin/hello
+env SERVER_NAME=example.com
+env SERVER_PORT=8080
+env SERVER_PROTOCOL=HTTP/1.1
+env SERVER_SOFTWARE=cgihost/1
+env HTTP_HOST=example.com:8080
+",
+    )
+}
+
+#[test]
 fn a_request_in_single_bytes(rt: HostRuntime) -> Result<(), Fail> {
     let mut heard = Vec::new(rt.alloc());
     heard.push(Heard::Accepted)?;
