@@ -1,10 +1,15 @@
 -- Why a connection is to be shut.
-use Rattle.std.specs.Prelude.{Bool, true, false, ◌≡◌, not, ◌&&◌, ◌||◌, List, ℕ, Option, Some, None, if◌then◌else◌}
+use Rattle.std.specs.Prelude.{Bool, true, false, ◌≡◌, ◌==◌, is_some, not, ◌&&◌, ◌||◌, List, ℕ, Option, Some, None, if◌then◌else◌}
 use Rattle.host_base.specs.declared.cause.Cause.{Cause}
 use Rattle.host_trace.specs.declared.items.Why.{Why}
 use Rattle.host_trace.specs.declared.items.Why.TheVariants.{Cut, Done, Gone, Idle, NoMemory, Stopped}
 use Rattle.request_reader.specs.Request.{is_begun}
-use Rattle.conn_marks.specs.View.{View as Marks, is_live}
+use Rattle.conn_marks.specs.View.{View as Marks, is_live, may_write}
+use Rattle.child_core.specs.Calls.{wants_more}
+use Rattle.child_core.specs.View.{View}
+use Rattle.exchange_request.specs.Knows.{is_taken}
+use Rattle.exchange_stage.specs.declared.stage.Stage.{Stage}
+use Rattle.exchange_stage.specs.declared.stage.Stage.TheVariants.{Reading, Running}
 use Rattle.conn_core.specs.declared.conn.Conn.{Conn}
 use Rattle.conn_core.specs.Kept.{is_reading}
 
@@ -29,3 +34,21 @@ why_of conn done =
 -- once the server is to end, the connection is shut
 abbrev pub Stops : Marks → Type 0
 Stops m = m.stopped ≡ true → is_live m ≡ false
+
+-- nothing more is answered, begun or asked, where the client is done or not
+abbrev pub ends_with : Conn → Bool → Bool
+ends_with conn done =
+    not (may_write conn.marks) || conn.marks.stopped || conn.marks.gone || conn.lost || conn.idled || conn.closing || conn.closes || is_some conn.cut || done
+
+-- ---- the client is asked
+
+-- its script takes more of the body
+abbrev pub takes_more_of : Option View → Bool
+takes_more_of None = false
+takes_more_of (Some v) = not (is_some v.outcome) && wants_more v
+
+-- within a request that is being read, or within a body that is fed
+abbrev pub hears_at : Conn → Stage → Bool
+hears_at conn Reading = not conn.marks.ended
+hears_at conn (Running leg) = leg.hop == 0 && not (is_taken conn.request) && takes_more_of conn.run
+hears_at conn _ = false

@@ -14,7 +14,9 @@ impl<'s> Conn<'s> {
     ghost use Rattle.host_trace.specs.Kinds.{is_no_memory};
     ghost use Rattle.conn_core.specs.Kept.{Gave, Kept, site_of};
     ghost use Rattle.conn_core.specs.Moves.{given_up_by};
-    ghost use Rattle.conn_core.specs.Reasons.{Stops, is_done_with, why_of};
+    ghost use Rattle.conn_core.specs.Reasons.{Stops, ends_with, hears_at, is_done_with, takes_more_of, why_of};
+    ghost use Rattle.conn_marks.specs.View.{has_room};
+    ghost use Rattle.std.specs.Prelude.{not, ◌&&◌};
     ghost use Rattle.exchange_request.specs.Knows.{Knows, limits_of};
     ghost use Rattle.std.specs.Prelude.{Bool, List, ◌≤◌};
     // Why the connection is to be shut.
@@ -78,7 +80,9 @@ impl<'s> Conn<'s> {
     }
 
     // Whether the client may be heard: within a request that nothing was done for, or within a body that is fed.
-    fn may_hear(&self) -> bool {
+    fn may_hear(&self) -> bool
+        ensures { result ≡ hears_at self.now self.now.stage }
+    {
         match &self.stage {
             Stage::Reading => !self.marks.has_ended(),
             Stage::Running(leg) => leg.hop == 0 && !self.request.is_whole() && self.takes_more(),
@@ -86,7 +90,9 @@ impl<'s> Conn<'s> {
         }
     }
 
-    fn takes_more(&self) -> bool {
+    fn takes_more(&self) -> bool
+        ensures { result ≡ takes_more_of self.now.run }
+    {
         match &self.run {
             None => false,
             Some(run) => run.outcome().is_none() && run.wants_more(),
@@ -105,7 +111,9 @@ impl<'s> Conn<'s> {
     }
 
     fn is_ask_due(&self) -> bool
-        ensures { result ≡ true → is_allowed self.now.marks (WantClient self.now.marks.c) ≡ true }
+        ensures allowed { result ≡ true → is_allowed self.now.marks (WantClient self.now.marks.c) ≡ true }
+        ensures exact { (bytes : List ℕ) (taken : ℕ) → 2 ≤ (limits_of self.now.request).head → Knows self.now.request bytes taken
+            → result ≡ not (ends_with self.now (is_done_with self.now bytes)) && has_room self.now.marks && hears_at self.now self.now.stage && not self.now.marks.asked }
     {
         !self.is_ending() && self.has_room() && self.may_hear() && !self.marks.is_asked()
     }

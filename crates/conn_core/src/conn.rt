@@ -55,7 +55,7 @@ impl<'s> Conn<'s> {
     ghost use Rattle.conn_marks.specs.View.{fresh, has_room, may_write};
     ghost use Rattle.conn_core.specs.Kept.{Gave, Kept, Stepped, is_reading, marks_of, number_of, peer_of, site_of};
     ghost use Rattle.conn_core.specs.Slot.{child_of, held_of, run_settled};
-    ghost use Rattle.conn_core.specs.Reasons.{Stops, is_done_with};
+    ghost use Rattle.conn_core.specs.Reasons.{Stops, ends_with, is_done_with};
     ghost use Rattle.exchange_request.specs.Knows.{Knows, limits_of};
     ghost use Rattle.std.specs.Prelude.{List, ◌≤◌};
     ghost use Rattle.reply_writer.specs.WholeRules.{IsStamp};
@@ -185,6 +185,8 @@ impl<'s> Conn<'s> {
         ensures live { result ≡ false → may_write self.now.marks ≡ true }
         ensures stopped { result ≡ false → self.now.marks.stopped ≡ false }
         ensures closing { result ≡ false → self.now.closing ≡ false }
+        ensures exact { (bytes : List ℕ) (taken : ℕ) → 2 ≤ (limits_of self.now.request).head → Knows self.now.request bytes taken
+            → result ≡ ends_with self.now (is_done_with self.now bytes) }
     {
         !self.marks.may_write()
             || self.marks.is_stopped()

@@ -3,3 +3,5 @@ pub mod HopLaws
 pub mod EndLaws
 pub mod ItemLaws
 pub mod LookLaws
+pub mod WhyLaws
+pub mod AskLaws

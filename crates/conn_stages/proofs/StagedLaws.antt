@@ -52,11 +52,11 @@ use Rattle.trace_model.specs.Readings.{is_head_request}
 
 -- ---- what the run of the last leg came to
 
-no_last : {X : Type 0} (xs : List X) (x : X) → [] ≡ xs ++ x ∷ [] → ⊥
+pub no_last : {X : Type 0} (xs : List X) (x : X) → [] ≡ xs ++ x ∷ [] → ⊥
 no_last [] x e = cc
 no_last (y ∷ xs) x e = cc
 
-outcome_told : (site : Site) (c : ℕ) (e : Exchange) (next : ℕ) (legs : List Started) (run : Option View) → KnowsChildren site c e false next legs run
+pub outcome_told : (site : Site) (c : ℕ) (e : Exchange) (next : ℕ) (legs : List Started) (run : Option View) → KnowsChildren site c e false next legs run
     → (leg : Started) → IsLast site c e legs leg → outcome_of (run_of site c e leg) e.items ≡ option_map read (outcome_of_run run)
 outcome_told site c e next legs None k leg last = absurd (no_last last.before leg (sym k.runs.0 ∙ last.is))
 outcome_told site c e next legs (Some v) k leg last =

@@ -1,5 +1,5 @@
 -- What a connection makes ready leads from stage to stage.
-use Rattle.std.specs.Prelude.{ℕ, ◌≡◌, ◌≤◌, Bool, true, false, List, [], ◌∷◌, ◌++◌, Option, Some}
+use Rattle.std.specs.Prelude.{ℕ, ◌≡◌, ◌≤◌, ◌&&◌, Bool, true, false, List, [], ◌∷◌, ◌++◌, Option, Some}
 use Rattle.std.specs.List.{list_any}
 use Rattle.host_base.specs.declared.launch.Launch.{Launch}
 use Rattle.host_trace.specs.declared.items.Act.{Act}
@@ -7,8 +7,11 @@ use Rattle.host_trace.specs.declared.items.Act.TheVariants.{Start, Write}
 use Rattle.host_trace.specs.declared.items.Item.TheVariants.{Out}
 use Rattle.host_trace.specs.Kinds.{bytes_written, child_started, names_child}
 use Rattle.child_core.specs.View.{View}
-use Rattle.trace_model.specs.Exchange.{Exchange, continue_text, pushed}
+use Rattle.trace_model.specs.Exchange.{Exchange, continue_text, pushed, request_bytes}
 use Rattle.trace_model.specs.Exchanges.{following, has_ended}
+use Rattle.trace_model.specs.Demands.{must_hear}
+use Rattle.trace_model.specs.Shuts.{why_due}
+use Rattle.conn_marks.specs.View.{has_room, is_live}
 use Rattle.trace_model.specs.Standing.{stands_whole}
 use Rattle.child_core.specs.Due.{acted, acting}
 use Rattle.trace_model.specs.Legs.{Leg as Started}
@@ -24,12 +27,13 @@ use Rattle.conn_children.specs.Children.{KnowsChildren}
 use Rattle.conn_children.specs.Laws.{with_acts}
 use Rattle.conn_front.specs.Moves.{HasEnded}
 use Rattle.conn_core.specs.Begins.{ReadiesAnswer, ReadiesHop}
-use Rattle.conn_core.specs.Kept.{StandsFor, number_of, site_of}
+use Rattle.conn_core.specs.Kept.{StandsFor, marks_of, number_of, site_of}
 use Rattle.conn_core.specs.Moves.{losing}
 use Rattle.conn_core.specs.Ready.{Looked}
+use Rattle.conn_core.specs.Reasons.{hears_at, is_done_with, why_of}
 use Rattle.conn_core.specs.Settles.{Follows, is_answered, is_over, stood}
 use Rattle.conn_core.specs.Writes.{continued, wrote as wrote_of}
-use Rattle.conn_stages.specs.Staged.{Lost, MayAnswer, MayHop, MaySettle, Staged, ending_of}
+use Rattle.conn_stages.specs.Staged.{Lost, MayAnswer, MayHop, MayAsk, MaySettle, MayShut, Staged, ending_of}
 
 -- A look at what was heard ..
 abbrev pub LooksAreStaged : Type 0
@@ -106,3 +110,15 @@ NextAreStaged = (old new : Conn) (e : Exchange) (legs : List Started) → Staged
 abbrev pub LossesAreStaged : Type 0
 LossesAreStaged = (conn : Conn) (e : Exchange) (legs : List Started) → Staged conn e legs
     → (is_answered conn.stage ≡ false → stands_whole (site_of conn) (number_of conn) e ≡ false) → Lost (losing conn) e legs
+
+-- ---- the end of a step
+
+-- The connection is to be shut for the reason for which it shuts, or for none.
+abbrev pub WhysAreDue : Type 0
+WhysAreDue = (conn : Conn) (e : Exchange) (legs : List Started) → 2 ≤ (site_of conn).limits.head → MayShut conn e legs
+    → why_due (site_of conn) (number_of conn) e ≡ why_of conn (is_done_with conn (request_bytes (number_of conn) e))
+
+-- Its client is to be heard exactly where it is live, has room, and hears at its stage.
+abbrev pub AsksAreDue : Type 0
+AsksAreDue = (conn : Conn) (e : Exchange) (legs : List Started) → MayAsk conn e legs
+    → must_hear (site_of conn) (number_of conn) e ≡ (is_live (marks_of conn) && has_room (marks_of conn) && hears_at conn conn.stage)

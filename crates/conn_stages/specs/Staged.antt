@@ -1,9 +1,12 @@
 -- The stage that a connection holds, in the words of the model.
-use Rattle.std.specs.Prelude.{ℕ, ◌≡◌, Bool, true, false, ◌||◌, nat_lt, List, [], Option}
+use Rattle.std.specs.Prelude.{ℕ, ◌≡◌, Bool, true, false, ◌||◌, nat_lt, List, [], Option, is_some}
 use Rattle.host_base.specs.declared.cause.Cause.{Cause}
 use Rattle.host_base.specs.declared.request.Request.{Request}
 use Rattle.host_trace.specs.Projections.{last_secs}
+use Rattle.trace_model.specs.Answer.{answer}
+use Rattle.trace_model.specs.Breaks.{idled}
 use Rattle.trace_model.specs.Demands.{may_go_on}
+use Rattle.trace_model.specs.Shuts.{cut_cause}
 use Rattle.trace_model.specs.Exchange.{Exchange, all_of, reading, up_to}
 use Rattle.trace_model.specs.Legs.{Leg as Started, offered_at}
 use Rattle.trace_model.specs.Readings.{is_bare}
@@ -12,11 +15,14 @@ use Rattle.exchange_reply.specs.StepRules.{is_continued}
 use Rattle.exchange_stage.specs.declared.stage.Leg.{Leg}
 use Rattle.exchange_stage.specs.declared.stage.Stage.TheVariants.{Interrupted, Running, Unstarted}
 use Rattle.exchange_stage.specs.Moves.{IsShort}
+use Rattle.exchange_stage.specs.Rules.{Rests}
 use Rattle.exchange_stage.specs.StageIs.{LostIs, StageIs}
+use Rattle.conn_marks.specs.View.{is_live}
+use Rattle.conn_marks.specs.Knows.{Knows as KnowsMarks}
 use Rattle.conn_front.specs.Moves.{Ending}
 use Rattle.conn_children.specs.Children.{KnowsChildren}
 use Rattle.conn_core.specs.declared.conn.Conn.{Conn}
-use Rattle.conn_core.specs.Kept.{StandsFor, number_of, site_of}
+use Rattle.conn_core.specs.Kept.{StandsFor, marks_of, number_of, site_of}
 use Rattle.conn_core.specs.Ready.{undrained}
 
 -- its stage is that of this exchange, for which these legs were started
@@ -75,3 +81,29 @@ pub record MaySettle (conn : Conn) (e : Exchange) (legs : List Started) : Type 0
 -- its stage is what is known then
 abbrev pub Lost : Conn → Exchange → List Started → Type 0
 Lost conn e legs = LostIs (site_of conn) (number_of conn) e legs conn.continued (conn.closing || conn.closes) conn.stage
+
+-- ---- the end of a step
+
+-- At its end nothing is due; its marks know the list; memory was found; and what is held of a reply that is cut off and of
+-- the idle time is so.
+pub record MayShut (conn : Conn) (e : Exchange) (legs : List Started) : Type 0 where
+  pub front : StandsFor conn e
+  pub staged : Staged conn e legs
+  pub rests : Rests (site_of conn) (number_of conn) e legs (is_looked_at conn.request) (undrained conn.run) conn.stage
+  pub marks : KnowsMarks (marks_of conn) (all_of e)
+  pub live : is_live (marks_of conn) ≡ true
+  pub found : conn.lost ≡ false
+  pub room : (marks_of conn).no_room ≡ false
+  pub cut_is : conn.cut ≡ cut_cause (answer (site_of conn) (number_of conn) e)
+  pub idled_is : conn.idled ≡ is_some (idled (site_of conn) (number_of conn) e)
+
+-- .. where it is not shut, nothing ends it
+pub record MayAsk (conn : Conn) (e : Exchange) (legs : List Started) : Type 0 where
+  pub front : StandsFor conn e
+  pub staged : Staged conn e legs
+  pub rests : Rests (site_of conn) (number_of conn) e legs (is_looked_at conn.request) (undrained conn.run) conn.stage
+  pub marks : KnowsMarks (marks_of conn) (all_of e)
+  pub next : ℕ
+  pub children : KnowsChildren (site_of conn) (number_of conn) e false next legs conn.run
+  pub found : conn.lost ≡ false
+  pub looked : (is_looked_at conn.request || is_taken conn.request) ≡ true

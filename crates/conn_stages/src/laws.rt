@@ -1,5 +1,5 @@
 // Laws of the stage that a connection holds. Each function is one law, and does nothing.
-ghost use Rattle.conn_stages.specs.Laws.{AnswersAreStaged, ContinuesAreStaged, EndsAreNoticed, EndsAreTaken, HopsAreStaged, LooksAreStaged, LossesAreStaged, NextAreStaged, OthersAreStaged, PartsAreStaged, RestsAreStaged, ServesAreStaged, StartsAreStaged};
+ghost use Rattle.conn_stages.specs.Laws.{AnswersAreStaged, AsksAreDue, ContinuesAreStaged, EndsAreNoticed, EndsAreTaken, HopsAreStaged, LooksAreStaged, LossesAreStaged, NextAreStaged, OthersAreStaged, PartsAreStaged, RestsAreStaged, ServesAreStaged, StartsAreStaged, WhysAreDue};
 
 /// What is made ready of an answer leads to the stage that the model says.
 pub fn answers_are_staged()
@@ -64,4 +64,14 @@ pub fn losses_are_staged()
 /// A look at what was heard finds the stage that the model says.
 pub fn looks_are_staged()
     ensures { LooksAreStaged }
+{}
+
+/// A connection is shut for the reason that there is.
+pub fn whys_are_due()
+    ensures { WhysAreDue }
+{}
+
+/// Its client is to be heard exactly where the connection says so.
+pub fn asks_are_due()
+    ensures { AsksAreDue }
 {}
