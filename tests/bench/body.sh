@@ -1,12 +1,14 @@
 #!/usr/bin/env bash
-# Prints the time a byte of a request's body of 16 MiB and of 1 MiB, by length and in chunks of 1 KiB, in
-# pieces of 65,536 bytes and of 1 byte: as a multiple of copying the same pieces onto one list in the same
-# run, and in nanoseconds. A body by length is measured twice, taken out as it comes and gathered for its
+# Prints the processor time a byte of a request's body of 16 MiB and of 1 MiB, by length and in chunks of 1
+# KiB, in pieces of 65,536 bytes and of 1 byte: as a multiple of copying the same pieces onto one list in the
+# same run, and in nanoseconds. A body by length is measured twice, taken out as it comes and gathered for its
 # request; one in chunks is gathered. The aims: 4 in large pieces, 40 in single bytes, and the same at 1 MiB
-# as at 16. The program that measures is built by `rt` in a folder of its own, over copies of the crates.
+# as at 16. The program that measures is built by `rt` in a folder of its own, over copies of the crates. It
+# reads how long it has run from /proc (Linux), which is exact to some milliseconds, and does each thing often.
 set -eu
 top=$(cd "$(dirname "$0")/../.." && pwd)
 command -v rt >/dev/null || { echo 'body.sh: skipped, there is no rt'; exit 0; }
+[ -r /proc/self/schedstat ] || { echo 'body.sh: skipped, there is no /proc/self/schedstat'; exit 0; }
 folder=$(mktemp -d)
 trap 'rm -rf "$folder"' EXIT
 crates='host_base head_lines head_reader script_map body_framing request_reader'
@@ -24,8 +26,9 @@ cat >"$folder/crates/body_speed/src/main.rt" <<'END_OF_PROGRAM'
 use host_base::{Limits, NoMemory};
 use request_reader::{ReqReader, ReqStep};
 use std::alloc::Global;
+use std::fs;
+use std::fs::Files;
 use std::io;
-use std::time::Instant;
 
 const MIB: usize = 1_048_576;
 const CHUNK: usize = 1024;
@@ -121,47 +124,80 @@ fn copied(alloc: Global, text: &[u8], size: usize) -> Result<usize, NoMemory> {
     Ok(copy.len())
 }
 
+fn leading_number(text: &[u8]) -> u64 {
+    let mut number: u64 = 0;
+    for byte in text {
+        if !byte.is_ascii_digit() {
+            break;
+        }
+        number = number.wrapping_mul(10).wrapping_add(u64::from(byte & 15));
+    }
+    number
+}
+
+// Nanoseconds of the processor that the program has used.
+fn spent(rt: &(impl Files + AllocGlobal)) -> io::Result<u64> {
+    let text = fs::read(rt, "/proc/self/schedstat")?;
+    Ok(leading_number(text.as_slice()))
+}
+
+#[derive(Clone, Copy)]
+enum Way {
+    Copied,
+    Streamed,
+    Gathered,
+}
+
+fn count_of(alloc: Global, way: Way, text: &[u8], size: usize) -> usize {
+    let count = match way {
+        Way::Copied => copied(alloc, text, size),
+        Way::Streamed => streamed(alloc, text, size),
+        Way::Gathered => gathered(alloc, text, size),
+    };
+    count.unwrap_or(0)
+}
+
+// Does it so often, and prints the time of one and how many bytes the body had.
 fn report(
-    rt: &(impl Print + std::rt::Clock),
+    rt: &(impl Print + AllocGlobal + Files),
     name: &str,
+    way: Way,
     mib: usize,
+    text: &[u8],
     size: usize,
-    begun: Instant,
-    count: Result<usize, NoMemory>,
+    times: u64,
 ) -> io::Result<()> {
-    let nanoseconds = begun.elapsed(rt)?.as_nanos();
-    println!(rt; "{name} {mib} {size} {nanoseconds} {}", count.unwrap_or(0))
+    let begun = spent(rt)?;
+    let mut count: usize = 0;
+    for _ in 0..times {
+        count = count_of(rt.alloc(), way, text, size);
+    }
+    let nanoseconds = spent(rt)?.wrapping_sub(begun) / times.max(1);
+    println!(rt; "{name} {mib} {size} {nanoseconds} {count}")
 }
 
 fn turn(
-    rt: &(impl Print + AllocGlobal + std::rt::Clock),
+    rt: &(impl Print + AllocGlobal + Files),
     mib: usize,
     size: usize,
+    times: u64,
     length: &[u8],
     chunks: &[u8],
 ) -> io::Result<()> {
-    let begun = Instant::now(rt)?;
-    let count = copied(rt.alloc(), length, size);
-    report(rt, "copy", mib, size, begun, count)?;
-    let begun = Instant::now(rt)?;
-    let count = streamed(rt.alloc(), length, size);
-    report(rt, "streamed", mib, size, begun, count)?;
-    let begun = Instant::now(rt)?;
-    let count = gathered(rt.alloc(), length, size);
-    report(rt, "gathered", mib, size, begun, count)?;
-    let begun = Instant::now(rt)?;
-    let count = gathered(rt.alloc(), chunks, size);
-    report(rt, "chunks", mib, size, begun, count)
+    report(rt, "copy", Way::Copied, mib, length, size, times)?;
+    report(rt, "streamed", Way::Streamed, mib, length, size, times)?;
+    report(rt, "gathered", Way::Gathered, mib, length, size, times)?;
+    report(rt, "chunks", Way::Gathered, mib, chunks, size, times)
 }
 
 fn main(rt: HostRuntime) -> io::Result<()> {
-    for mib in [1, 16] {
+    for (mib, often) in [(1, 16), (16, 1)] {
         let (Ok(length), Ok(chunks)) = (by_length(rt.alloc(), mib), in_chunks(rt.alloc(), mib)) else {
             return println!(rt; "no memory");
         };
-        for size in [65_536, 1] {
-            for _ in 0..5 {
-                turn(&rt, mib, size, &length, &chunks)?;
+        for (size, times) in [(65_536, 64), (1, 4)] {
+            for _ in 0..3 {
+                turn(&rt, mib, size, often * times, &length, &chunks)?;
             }
         }
     }
@@ -169,7 +205,7 @@ fn main(rt: HostRuntime) -> io::Result<()> {
 }
 END_OF_PROGRAM
 (cd "$folder/crates/body_speed" && rt run) >"$folder/times" 2>"$folder/log" || { tail -n 30 "$folder/log"; exit 1; }
-# Each is run five times, and the least counts.
+# The least of three counts.
 awk '
     $5 != $2 * 1048576 && ($1 != "copy" || $5 < $2 * 1048576) { print "body.sh: " $0; bad = 1; exit 1 }
     { at = $1 " " $2 " " $3 }
