@@ -1,1 +1,2 @@
 pub mod KnowsLaws
+pub mod FitLaws

@@ -11,6 +11,7 @@ use Rattle.host_trace.specs.Projections.{shut, upgraded, client_wanted, is_pendi
 use Rattle.conn_marks.specs.View.{View, fresh, noted, is_live, may_write, has_room}
 use Rattle.conn_marks.specs.Knows.{Knows, Admits}
 use Rattle.conn_marks.specs.Form.{given_all, are_given}
+use Rattle.conn_marks.specs.Fits.{fits_marks}
 
 abbrev pub StartsAreKnown : Type 0
 StartsAreKnown = (c : ℕ) → Knows (fresh c) []
@@ -41,3 +42,7 @@ concerns c x = is_accepted x || is_stop x || names c x
 
 abbrev pub IdleItemsChangeNothing : Type 0
 IdleItemsChangeNothing = (m : View) (x : Item) → concerns m.c x ≡ false → noted m x ≡ m
+
+-- Of an event that concerns the connection they say whether it fits its list.
+abbrev pub FitsAreExact : Type 0
+FitsAreExact = (limit : ℕ) (m : View) (L : List Item) (ev : Event) → Knows m L → concerns m.c (In ev) ≡ true → fits_marks m ev ≡ fits_own limit L ev

@@ -1,5 +1,5 @@
 // Laws of the marks of a connection. Each function is one law, and does nothing.
-ghost use Rattle.conn_marks.specs.Laws.{StartsAreKnown, EventsMayCome, ItemsAreKnown, ActsAreKnown, MarksAreExact, IdleItemsChangeNothing};
+ghost use Rattle.conn_marks.specs.Laws.{StartsAreKnown, EventsMayCome, ItemsAreKnown, ActsAreKnown, MarksAreExact, IdleItemsChangeNothing, FitsAreExact};
 
 /// The marks of a new connection know the empty list.
 pub fn starts_are_known()
@@ -29,4 +29,9 @@ pub fn marks_are_exact()
 /// An item that neither names the connection nor is Accepted or Stop leaves its marks as they are.
 pub fn idle_items_change_nothing()
     ensures { IdleItemsChangeNothing }
+{}
+
+/// Whether an event of the connection may come next is what its list says.
+pub fn fits_are_exact()
+    ensures { FitsAreExact }
 {}

@@ -7,7 +7,7 @@ mod marks;
 mod tests;
 
 pub use laws::{
-    acts_are_known, events_may_come, idle_items_change_nothing, items_are_known, marks_are_exact,
-    starts_are_known,
+    acts_are_known, events_may_come, fits_are_exact, idle_items_change_nothing, items_are_known,
+    marks_are_exact, starts_are_known,
 };
 pub use marks::Marks;

@@ -33,6 +33,7 @@ impl Marks {
     ghost use Rattle.host_trace.specs.declared.items.Act.TheVariants.{WantClient, Write, Shut, Upgrade, Says};
     ghost use Rattle.host_trace.specs.declared.items.Why.{Why};
     ghost use Rattle.conn_marks.specs.View.{fresh, noted, is_live, may_write, has_room};
+    ghost use Rattle.conn_marks.specs.Fits.{fits_marks};
 
     /// Those of connection `c`, of which nothing is known yet.
     pub fn new(c: u64) -> Self
@@ -79,6 +80,32 @@ impl Marks {
                 }
             }
             _ => {}
+        }
+    }
+
+    /// Whether an event of the connection, its Accepted or Stop may come next; true for every other event.
+    pub fn fits(&self, ev: &Event) -> bool
+        ensures { result ≡ fits_marks self.now ev.now }
+    {
+        let asked = !self.shut && !self.upgraded && self.asked;
+        let asked_upgraded = !self.shut && self.upgraded && self.asked;
+        match ev {
+            Event::Accepted { .. } => !self.stopped && !self.accepted,
+            Event::Stop => !self.stopped,
+            Event::ClientBytes { c, bytes } => {
+                let len = bytes.len();
+                self.c != *c || asked && 0 < len && len <= 65_536
+            }
+            Event::ClientEof { c } => self.c != *c || asked,
+            Event::WsText { c, .. }
+            | Event::WsBinary { c }
+            | Event::WsClosed { c }
+            | Event::WsBad { c } => self.c != *c || asked_upgraded,
+            Event::ClientGone { c } | Event::NoRoom { c } => {
+                self.c != *c || self.accepted && !self.shut
+            }
+            Event::Wrote { c, n } => { self.c != *c || !self.shut && 1 <= *n && *n <= self.pending }
+            _ => true,
         }
     }
 

@@ -1,0 +1,3 @@
+pub mod FreedLaws
+pub mod StandsLaws
+pub mod GoodLaws

@@ -1,0 +1,9 @@
+pub mod ListsLaws
+pub mod EventLaws
+pub mod OwnerLaws
+pub mod SoundLaws
+pub mod TurnLaws
+pub mod ChildLaws
+pub mod SettledLaws
+pub mod SlotLaws
+pub mod BetweenGoodLaws
