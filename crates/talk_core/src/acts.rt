@@ -30,6 +30,17 @@ fn len_of(texts: &[Text]) -> u64
 }
 
 impl Talk {
+    ghost use Rattle.std.specs.Prelude.{◌≤◌, ◌^◌, ◌-◌, IfSome, None, length, sum_by};
+
+    /// How many bytes the messages have that are to be said; nothing where they have 2^64 - 1 or more.
+    pub fn texts_len(&self) -> Option<u64>
+        ensures len { IfSome result (λ len. len ≡ sum_by length self.now.texts) }
+        ensures many { result ≡ None → 2 ^ 64 - 1 ≤ sum_by length self.now.texts }
+    {
+        let len = len_of(self.texts.as_slice());
+        if len < u64::MAX { Some(len) } else { None }
+    }
+
     /// Gives the acts that are due: the messages, and then the close frame. The answer is how many bytes of messages
     /// were said. `NoMemory` only where a message was due: then no act was given, and the talk is given up.
     pub fn act<O: Outside>(&mut self, out: &mut O) -> Result<u64, NoMemory>

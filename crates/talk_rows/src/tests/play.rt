@@ -166,7 +166,8 @@ impl Played {
         let mut why = why_of(event);
         if self.run.is_websocket() {
             let heard = self.talk.hear(event, &mut self.run).is_ok();
-            if !heard || self.talk.act(&mut self.out).is_err() {
+            let counted = self.talk.texts_len().is_some();
+            if !heard || !counted || self.talk.act(&mut self.out).is_err() {
                 why = self.give_up();
             }
         }
