@@ -24,20 +24,23 @@ use Rattle.conn_marks.specs.Form.{is_allowed, given_all, are_given}
 use Rattle.conn_marks.proofs.KnowsLaws.{given_all-append, are_given-append, given_all-number}
 use Rattle.trace_model.specs.Exchange.{Exchange, continue_text, pushed, request_bytes}
 use Rattle.exchange_request.specs.declared.incoming.Incoming.{Incoming}
-use Rattle.exchange_request.specs.Knows.{Knows, is_ready, is_taken, limits_of}
+use Rattle.exchange_request.specs.Knows.{Knows, is_ready, limits_of}
 use Rattle.exchange_stage.specs.declared.stage.Stage.{Stage}
 use Rattle.conn_front.specs.Front.{IsHeard}
 use Rattle.conn_front.specs.Laws.{peer_after}
-use Rattle.conn_front.specs.Moves.{Move, Ending, gives, continues, settles, acts_of, moved, Belongs}
-use Rattle.conn_front.proofs.FrontLaws.{acts_keep, continues_known, counted_all, events_known, hears_as, known_request, known_same, known_stood, next_known}
+use Rattle.conn_front.specs.Moves.{Move, gives, continues, settles, acts_of, moved, Belongs}
+use Rattle.conn_front.proofs.FrontLaws.{acts_keep, continues_known, counted_all, events_known, hears_as, known_request, known_same, next_known}
 use Rattle.conn_front.proofs.MoveLaws.{acts_of-append, belong_together, in_step_parts, moved-append}
-use Rattle.conn_core.specs.Kept.{AreOwn, Gave, Heard, HeardOwn, HasChildIn, Kept, Leads, Led, StandsFor, Stepped, Turned, Within, front_of, is_reading, is_settled_as, marks_of, number_of, peer_of, site_of}
+use Rattle.conn_core.specs.Hears.{Hears}
+use Rattle.conn_core.specs.Kept.{AreOwn, Gave, Heard, HeardOwn, HasChildIn, Kept, Leads, Led, StandsFor, Turned, Within, front_of, is_reading, is_settled_as, marks_of, number_of, peer_of, site_of}
 use Rattle.child_core.specs.declared.ending.Ending.TheVariants.{Dropped}
 use Rattle.host_trace.specs.Account.{has_unsettled}
 use Rattle.host_trace.specs.Kinds.{is_tick, is_upgrade}
 use Rattle.conn_core.specs.Moves.{ended_run, losing}
-use Rattle.conn_core.specs.Settles.{Follows, Settles, is_over, stood}
+use Rattle.conn_core.specs.Parts.{Continues, Deed, Ends, EndsBy, GivesUp, Loses, Nothing, Or, Part, Steps, Then, gives_all, the_one, the_other}
+use Rattle.conn_core.specs.Settles.{Follows, Settles, ending_of, is_over}
 use Rattle.conn_core.specs.Slot.{run_settled}
+use Rattle.conn_core.specs.Step.{Stepped}
 use Rattle.conn_core.specs.Writes.{acts_continued, acts_written, continued, wrote}
 
 pub adds_nothing : (b : Option (List Item)) → Adds b [] b
@@ -52,8 +55,8 @@ kids_after-append ks c (x ∷ xs) ys = kids_after-append (with_child ks c (Out x
 pub kept_number : {old new : Conn} → Kept old new → number_of new ≡ number_of old
 kept_number k = ap (λ (m : Marks). m.c) k.marks
 
-pub gave_number : {old new : Conn} {n m : ℕ} {b d : Option (List Item)} → Gave old n b new m d → number_of new ≡ number_of old
-gave_number {old} g = ap (λ (m : Marks). m.c) g.marks ∙ given_all-number (marks_of old) g.acts
+pub gave_number : {A : Deed} {old new : Conn} {n m : ℕ} {b d : Option (List Item)} → Gave A old n b new m d → number_of new ≡ number_of old
+gave_number {A} {old} g = ap (λ (m : Marks). m.c) g.marks ∙ given_all-number (marks_of old) g.acts
 
 -- ---- what the connection stands for
 
@@ -61,7 +64,7 @@ pub leads_none : (site : Site) (c : ℕ) (old new : Conn) → ((e : Exchange) �
 leads_none site c old new keeps e k a = (keeps e k, tt)
 
 -- .. by the same connection
-leads_as : (site site' : Site) (c c' : ℕ) (old new : Conn) (moves : List Move) → site' ≡ site → c' ≡ c → Leads site' c' old new moves → Leads site c old new moves
+pub leads_as : (site site' : Site) (c c' : ℕ) (old new : Conn) (moves : List Move) → site' ≡ site → c' ≡ c → Leads site' c' old new moves → Leads site c old new moves
 leads_as site site' c c' old new moves s n l =
     subst (λ (d : ℕ). Leads site d old new moves) n (subst (λ (t : Site). Leads t c' old new moves) s l)
 
@@ -81,8 +84,8 @@ leads_then site site' c c' old mid new xs ys s n one two e k =
 pub kept_known : {old new : Conn} → Kept old new → (e : Exchange) → StandsFor old e → StandsFor new e
 kept_known k e = known_same k.site (kept_number k) k.peer_is k.lost k.reading k.front
 
-pub kept_turned : {old new : Conn} → Kept old new → Turned old new
-kept_turned {old} {new} k = record {
+pub kept_turned : {A : Deed} {old new : Conn} → Kept old new → ((n : ℕ) → A old n [] new) → Turned A old new
+kept_turned {A} {old} {new} k does = record {
   site = k.site;
   marks = k.marks;
   peer_is = k.peer_is;
@@ -90,24 +93,11 @@ kept_turned {old} {new} k = record {
   moves = [];
   none = refl;
   keeps = leads_none (site_of old) (number_of old) old new (kept_known k);
+  does = does;
 }
 
-pub turned_number : {old new : Conn} → Turned old new → number_of new ≡ number_of old
-turned_number t = ap (λ (m : Marks). m.c) t.marks
-
-pub turned_then : {old mid new : Conn} → Turned old mid → Turned mid new → Turned old new
-turned_then {old} {mid} {new} one two = record {
-  site = two.site ∙ one.site;
-  marks = two.marks ∙ one.marks;
-  peer_is = two.peer_is ∙ one.peer_is;
-  child = λ ks w. two.child ks (one.child ks w);
-  moves = one.moves ++ two.moves;
-  none = acts_of-append one.moves two.moves ∙ (ap (λ (l : List Act). l ++ acts_of two.moves) one.none ∙ two.none);
-  keeps = leads_then (site_of old) (site_of mid) (number_of old) (number_of mid) old mid new one.moves two.moves one.site (turned_number one) one.keeps two.keeps;
-}
-
-pub gave_still : {old new : Conn} {n : ℕ} {b d : Option (List Item)} → Turned old new → Adds b [] d → Gave old n b new n d
-gave_still {old} {new} {n} {b} {d} t told = record {
+pub gave_still : {A : Deed} {old new : Conn} {n : ℕ} {b d : Option (List Item)} → Turned A old new → Adds b [] d → Gave A old n b new n d
+gave_still {A} {old} {new} {n} {b} {d} t told = record {
   acts = [];
   told = told;
   next = refl;
@@ -119,13 +109,11 @@ gave_still {old} {new} {n} {b} {d} t told = record {
   moves = t.moves;
   same = t.none;
   keeps = t.keeps;
+  does = t.does n;
 }
 
-pub gave_turned : {old new : Conn} {n : ℕ} {b : Option (List Item)} → Turned old new → Gave old n b new n b
-gave_turned {old} {new} {n} {b} t = gave_still t (adds_nothing b)
-
-pub gave_none : {old new : Conn} {n : ℕ} {b : Option (List Item)} → Kept old new → Gave old n b new n b
-gave_none k = gave_turned (kept_turned k)
+pub gave_turned : {A : Deed} {old new : Conn} {n : ℕ} {b : Option (List Item)} → Turned A old new → Gave A old n b new n b
+gave_turned {A} {old} {new} {n} {b} t = gave_still t (adds_nothing b)
 
 own_next : (c c' n n' : ℕ) (ks : List ℕ) (xs ys : List Act) (mid new : Conn) → c' ≡ c → n' ≡ next_after n xs → AreOwn c n ks xs mid
     → AreOwn c' n' (kids_after ks c xs) ys new → AreOwn c n ks (xs ++ ys) new
@@ -140,12 +128,14 @@ own_next c c' n n' ks xs ys mid new c_is n_is one two =
       child = subst (λ (l : List ℕ). HasChildIn new l) (sym (kids_after-append ks c xs ys)) child;
     }
 
-pub gave_then : {old mid new : Conn} {n m l : ℕ} {a b d : Option (List Item)} → Gave old n a mid m b → Gave mid m b new l d → Gave old n a new l d
-gave_then {old} {mid} {new} {n} {m} {l} {a} {b} {d} one two =
+pub gave_then : {A B : Deed} {old mid new : Conn} {n m l : ℕ} {a b d : Option (List Item)} → Gave A old n a mid m b → Gave B mid m b new l d
+    → Gave (Then A B) old n a new l d
+gave_then {A} {B} {old} {mid} {new} {n} {m} {l} {a} {b} {d} one two =
     let next : l ≡ next_after n (one.acts ++ two.acts) =
     two.next ∙ ap (λ (k : ℕ). next_after k two.acts) one.next ∙ sym (next_after-append n one.acts two.acts) in
     let later : are_given (given_all (marks_of old) one.acts) two.acts ≡ true =
     subst (λ (v : Marks). are_given v two.acts ≡ true) one.marks two.form in
+    let m_is : m ≡ next_after n (acts_of one.moves) = one.next ∙ ap (λ (l : List Act). next_after n l) (sym one.same) in
     record {
       acts = one.acts ++ two.acts;
       told = Adds-trans one.told two.told;
@@ -162,6 +152,64 @@ gave_then {old} {mid} {new} {n} {m} {l} {a} {b} {d} one two =
       same = acts_of-append one.moves two.moves
           ∙ (ap (λ (l : List Act). l ++ acts_of two.moves) one.same ∙ ap (λ (l : List Act). one.acts ++ l) two.same);
       keeps = leads_then (site_of old) (site_of mid) (number_of old) (number_of mid) old mid new one.moves two.moves one.site (gave_number one) one.keeps two.keeps;
+      does = record { mid = mid; sooner = one.moves; later = two.moves; are = refl; first = one.does; second = subst (λ (k : ℕ). B mid k two.moves new) m_is two.does };
+    }
+
+-- what was done is also this
+pub gave_as : {A B : Deed} {old new : Conn} {n m : ℕ} {b d : Option (List Item)} → ((moves : List Move) → A old n moves new → B old n moves new)
+    → Gave A old n b new m d → Gave B old n b new m d
+gave_as {A} {B} {old} {new} {n} {m} {b} {d} as_other g = record {
+  acts = g.acts;
+  told = g.told;
+  next = g.next;
+  site = g.site;
+  peer_is = g.peer_is;
+  form = g.form;
+  marks = g.marks;
+  own = g.own;
+  moves = g.moves;
+  same = g.same;
+  keeps = g.keeps;
+  does = as_other g.moves g.does;
+}
+
+-- .. and a part
+pub gave_part : {A : Deed} {old new : Conn} {n m : ℕ} {b d : Option (List Item)} → Gave A old n b new m d → Gave (Part A) old n b new m d
+gave_part {A} {old} {new} {n} {m} {b} {d} g =
+    let marks : marks_of new ≡ given_all (marks_of old) (acts_of g.moves) = g.marks ∙ ap (λ (l : List Act). given_all (marks_of old) l) (sym g.same) in
+    record {
+      acts = g.acts;
+      told = g.told;
+      next = g.next;
+      site = g.site;
+      peer_is = g.peer_is;
+      form = g.form;
+      marks = g.marks;
+      own = g.own;
+      moves = g.moves;
+      same = g.same;
+      keeps = g.keeps;
+      does = record { site = g.site; peer_is = g.peer_is; marks = marks; leads = g.keeps; by = g.does };
+    }
+
+-- after what kept all it was done from the first
+pub gave_from : {A B : Deed} {old mid new : Conn} {n m : ℕ} {b d : Option (List Item)} → Kept old mid
+    → ((moves : List Move) → A mid n moves new → B old n moves new) → Gave A mid n b new m d → Gave B old n b new m d
+gave_from {A} {B} {old} {mid} {new} {n} {m} {b} {d} k as_first g =
+    let number : number_of mid ≡ number_of old = kept_number k in
+    record {
+      acts = g.acts;
+      told = g.told;
+      next = g.next;
+      site = g.site ∙ k.site;
+      peer_is = g.peer_is ∙ k.peer_is;
+      form = subst (λ (v : Marks). are_given v g.acts ≡ true) k.marks g.form;
+      marks = g.marks ∙ ap (λ (v : Marks). given_all v g.acts) k.marks;
+      own = λ ks w. subst (λ (c : ℕ). AreOwn c n ks g.acts new) number (g.own ks (k.child ks w));
+      moves = g.moves;
+      same = g.same;
+      keeps = λ e known. leads_as (site_of old) (site_of mid) (number_of old) (number_of mid) mid new g.moves k.site number g.keeps e (kept_known k e known);
+      does = as_first g.moves g.does;
     }
 
 -- ---- acts of the connection
@@ -260,9 +308,9 @@ after_known act old new e k none known =
     known_same k.site (after_number k) k.peer_is k.lost k.reading k.front
     (acts_keep (site_of old) (number_of old) (peer_of old) old.lost (is_reading old.stage) (front_of old) e act none known)
 
-pub gave_plain : {old new : Conn} {n : ℕ} {b d : Option (List Item)} (act : Act) → IsPlain (number_of old) act → is_allowed (marks_of old) act ≡ true
-    → Adds b (act ∷ []) d → KeptAfter act old new → ((e : Exchange) → StandsFor old e → Belongs e act) → Gave old n b new n d
-gave_plain {old} {new} {n} {b} {d} act is may told k belongs = record {
+pub gave_plain : {A : Deed} {old new : Conn} {n : ℕ} {b d : Option (List Item)} (act : Act) → IsPlain (number_of old) act → is_allowed (marks_of old) act ≡ true
+    → Adds b (act ∷ []) d → KeptAfter act old new → ((e : Exchange) → StandsFor old e → Belongs e act) → A old n (gives act ∷ []) new → Gave A old n b new n d
+gave_plain {A} {old} {new} {n} {b} {d} act is may told k belongs does = record {
   acts = act ∷ [];
   told = told;
   next = plain_next (number_of old) n act is;
@@ -274,6 +322,7 @@ gave_plain {old} {new} {n} {b} {d} act is may told k belongs = record {
   moves = gives act ∷ [];
   same = refl;
   keeps = λ e known a. (after_known act old new e k (plain_upgrades (number_of old) act is (number_of old)) known, (belongs e known, tt));
+  does = does;
 }
 
 -- ---- marks of which an item says nothing
@@ -305,10 +354,10 @@ pub record FrontKept (old new : Conn) : Type 0 where
   pub lost : old.lost ≡ true → new.lost ≡ true
   pub reading : is_reading old.stage ≡ false → is_reading new.stage ≡ false
 
-pub gave_start : {old new : Conn} {b d : Option (List Item)} (n c j hop : ℕ) (launch : Launch) (v : View) → c ≡ number_of old → new.run ≡ Some v → v.number ≡ n
+pub gave_start : {A : Deed} {old new : Conn} {b d : Option (List Item)} (n c j hop : ℕ) (launch : Launch) (v : View) → c ≡ number_of old → new.run ≡ Some v → v.number ≡ n
     → is_allowed (marks_of old) (Start n c j hop launch) ≡ true → Adds b (Start n c j hop launch ∷ []) d → site_of new ≡ site_of old → peer_of new ≡ peer_of old → marks_of new ≡ marks_of old
-    → FrontKept old new → j ≡ old.number → j < 2 ^ 128 - 1 → old.closing ≡ false → Gave old n b new (n + 1) d
-gave_start {old} {new} {b} {d} n c j hop launch v c_is run k live told site peer marks front j_is less open_yet = record {
+    → FrontKept old new → j ≡ old.number → j < 2 ^ 128 - 1 → old.closing ≡ false → A old n (gives (Start n c j hop launch) ∷ []) new → Gave A old n b new (n + 1) d
+gave_start {A} {old} {new} {b} {d} n c j hop launch v c_is run k live told site peer marks front j_is less open_yet does = record {
   acts = Start n c j hop launch ∷ [];
   told = told;
   next = refl;
@@ -333,6 +382,7 @@ gave_start {old} {new} {b} {d} n c j hop launch v c_is run k live told site peer
       (acts_keep (site_of old) (number_of old) (peer_of old) old.lost (is_reading old.stage) (front_of old) e (Start n c j hop launch) refl known) in
       let number : j ≡ e.number = counted_all j e.number (j_is ∙ known.number) less in
       (after, ((number, sym known.closing ∙ open_yet), tt));
+  does = does;
 }
 
 -- ---- acts of the child
@@ -447,11 +497,7 @@ childs_form m k (Says d texts ∷ acts) a = absurd a.0
 childs_form m k (CloseWs d code ∷ acts) a = absurd a.0
 
 -- they leave what is known of the exchange beside its script
-abbrev all_gives : List Act → List Move
-all_gives [] = []
-all_gives (act ∷ acts) = gives act ∷ all_gives acts
-
-all_given : (acts : List Act) → acts_of (all_gives acts) ≡ acts
+all_given : (acts : List Act) → acts_of (gives_all acts) ≡ acts
 all_given [] = refl
 all_given (act ∷ acts) = ap (λ (l : List Act). act ∷ l) (all_given acts)
 
@@ -473,7 +519,7 @@ childs_act c k (Upgrade d rest) is = absurd is
 childs_act c k (Says d texts) is = absurd is
 childs_act c k (CloseWs d code) is = absurd is
 
-childs_lead : (k : ℕ) (acts : List Act) → AreChilds k acts → (conn : Conn) → Leads (site_of conn) (number_of conn) conn conn (all_gives acts)
+childs_lead : (k : ℕ) (acts : List Act) → AreChilds k acts → (conn : Conn) → Leads (site_of conn) (number_of conn) conn conn (gives_all acts)
 childs_lead k [] are conn e known a = (known, tt)
 childs_lead k (act ∷ acts) are conn e known a =
     let one = childs_act (number_of conn) k act are.0 in
@@ -486,10 +532,10 @@ number_by : (found may : Bool) (v : View) → (acted_by found may v).number ≡ 
 number_by true may v = acted_number may v
 number_by false may v = refl
 
-pub gave_run : {old new : Conn} {n : ℕ} {b d : Option (List Item)} (found may : Bool) (v : View) → old.run ≡ Some v → new.run ≡ Some (acted_by found may v)
+pub gave_run : {A : Deed} {old new : Conn} {n : ℕ} {b d : Option (List Item)} (found may : Bool) (v : View) → old.run ≡ Some v → new.run ≡ Some (acted_by found may v)
     → Adds b (acting_by found may v) d → site_of new ≡ site_of old → peer_of new ≡ peer_of old → marks_of new ≡ marks_of old → FrontKept old new
-    → Gave old n b new n d
-gave_run {old} {new} {n} {b} {d} found may v was is told site peer marks front = record {
+    → A old n (gives_all (acting_by found may v)) new → Gave A old n b new n d
+gave_run {A} {old} {new} {n} {b} {d} found may v was is told site peer marks front does = record {
   acts = acting_by found may v;
   told = told;
   next = sym (childs_own (number_of old) n v.number (v.number ∷ []) (acting_by found may v) (or_left (v.number == v.number) false (same_number v.number)) (by_found found may v)).next;
@@ -506,21 +552,49 @@ gave_run {old} {new} {n} {b} {d} found may v was is told site peer marks front =
             (subst (λ (l : List ℕ). Within (Some (acted_by found may v)) l) (sym r.kids)
             (ap (λ (e : ℕ). has ks e) (number_by found may v) ∙ h));
       };
-  moves = all_gives (acting_by found may v);
+  moves = gives_all (acting_by found may v);
   same = all_given (acting_by found may v);
   keeps = λ e known a.
       let r = childs_lead v.number (acting_by found may v) (by_found found may v) old e known a in
       (known_same site (ap (λ (m : Marks). m.c) marks) peer front.lost front.reading front.front r.0, r.1);
+  does = does;
 }
 
 pub kept_same : (conn : Conn) → Kept conn conn
 kept_same conn = record { site = refl; marks = refl; peer_is = refl; child = λ ks w. w; front = refl; lost = λ l. l; reading = λ r. r }
 
-pub gave_after : {old mid new : Conn} {n m : ℕ} {b d : Option (List Item)} → Kept old mid → Gave mid n b new m d → Gave old n b new m d
-gave_after k g = gave_then (gave_none k) g
+-- nothing was done
+pub gave_nothing : (conn : Conn) {n : ℕ} {b : Option (List Item)} → Gave Nothing conn n b conn n b
+gave_nothing conn {n} {b} = gave_turned (kept_turned (kept_same conn) (λ k. record { none = refl; same = refl }))
 
-pub gave_before : {old mid new : Conn} {n m : ℕ} {b d : Option (List Item)} → Gave old n b mid m d → Kept mid new → Gave old n b new m d
-gave_before g k = gave_then g (gave_none k)
+-- what was done stays, as what keeps all follows
+pub gave_before : {A B : Deed} {old mid new : Conn} {n m : ℕ} {b d : Option (List Item)} → Gave A old n b mid m d → Kept mid new
+    → ((moves : List Move) → A old n moves mid → B old n moves new) → Gave B old n b new m d
+gave_before {A} {B} {old} {mid} {new} {n} {m} {b} {d} g k as_later = record {
+  acts = g.acts;
+  told = g.told;
+  next = g.next;
+  site = k.site ∙ g.site;
+  peer_is = k.peer_is ∙ g.peer_is;
+  form = g.form;
+  marks = k.marks ∙ g.marks;
+  own = λ ks w. let first = g.own ks w in record { are = first.are; child = k.child (kids_after ks (number_of old) g.acts) first.child };
+  moves = g.moves;
+  same = g.same;
+  keeps = λ e known a. let first = g.keeps e known a in (kept_known k (moved (site_of old) (number_of old) e g.moves) first.0, first.1);
+  does = as_later g.moves g.does;
+}
+
+pub kept_both : {old mid new : Conn} → Kept old mid → Kept mid new → Kept old new
+kept_both one two = record {
+  site = two.site ∙ one.site;
+  marks = two.marks ∙ one.marks;
+  peer_is = two.peer_is ∙ one.peer_is;
+  child = λ ks w. two.child ks (one.child ks w);
+  front = two.front ∙ one.front;
+  lost = λ l. two.lost (one.lost l);
+  reading = λ r. two.reading (one.reading r);
+}
 
 pub losing_kept : (conn : Conn) → Kept conn (losing conn)
 losing_kept conn = record {
@@ -538,53 +612,42 @@ losing_kept conn = record {
     given_up ks (Some v) w = w
 
 -- a stage was taken out and put back
-pub put_back : {old mid new : Conn} {stage was : Stage} → mid ≡ record old { stage = was } → stage ≡ old.stage → new ≡ record mid { stage = stage } → Kept old new
+pub put_back : {old mid new : Conn} {stage was : Stage} → mid ≡ record old { stage = was } → stage ≡ old.stage → new ≡ record mid { stage = stage } → new ≡ old
 put_back {old} {mid} {new} {stage} {was} taken is put =
-    let same : record mid { stage = stage } ≡ old =
-    ap (λ (conn : Conn). record conn { stage = stage }) taken ∙ ap (λ (s : Stage). record old { stage = s }) is in
-    subst (λ (conn : Conn). Kept old conn) (sym (put ∙ same)) (kept_same old)
+    put ∙ (ap (λ (conn : Conn). record conn { stage = stage }) taken ∙ ap (λ (s : Stage). record old { stage = s }) is)
 
 -- ---- the end of an exchange
 
-over_turned : {old new : Conn} → Follows old new → Turned old new
-over_turned {old} {new} f =
-    let ending : Ending = record { closes = old.closes; idled = old.idled; lost = old.lost; taken = is_taken old.request } in
+over_turned : {old new : Conn} → is_over old ≡ true → Follows old new → Turned Ends old new
+over_turned {old} {new} over f =
     record {
       site = f.site;
       marks = f.marks;
       peer_is = f.peer_is;
       child = λ ks w. subst (λ (r : Option View). Within r ks) (sym f.run) tt;
-      moves = settles ending ∷ [];
+      moves = settles (ending_of old) ∷ [];
       none = refl;
       keeps = λ e known a.
-          let next = next_known (site_of old) (number_of old) (peer_of old) old.lost (is_reading old.stage) (is_reading new.stage) (front_of old) (front_of new) e ending
+          let next = next_known (site_of old) (number_of old) (peer_of old) old.lost (is_reading old.stage) (is_reading new.stage) (front_of old) (front_of new) e (ending_of old)
           a.0 refl refl refl refl f.front known in
           (known_same f.site (ap (λ (m : Marks). m.c) f.marks) f.peer_is (λ l. f.lost ∙ l) (λ r. r) refl next, tt);
+      does = λ n. subst (λ (b : Bool). EndsBy b old n (settles (ending_of old) ∷ []) new) (sym over) (refl, f);
     }
 
-pub settles_turned : {old new : Conn} → Settles old new → Turned old new
+pub settles_turned : {old new : Conn} → Settles old new → Turned Ends old new
 settles_turned {old} {new} s = go (is_over old) refl
   where
-    go : (b : Bool) → is_over old ≡ b → Turned old new
-    go true is = over_turned (s.over is)
-    go false is = subst (λ (conn : Conn). Turned old conn) (sym (s.on is)) (kept_turned (kept_same old))
-
-pub stood_turned : (closes : Bool) (conn : Conn) → Turned conn (stood closes conn)
-stood_turned closes conn = record {
-  site = refl;
-  marks = refl;
-  peer_is = refl;
-  child = λ ks w. w;
-  moves = [];
-  none = refl;
-  keeps = leads_none (site_of conn) (number_of conn) conn (stood closes conn)
-      (λ e known. known_stood (site_of conn) (number_of conn) (peer_of conn) conn.lost (is_reading conn.stage) (front_of conn) e closes known);
-}
+    go : (b : Bool) → is_over old ≡ b → Turned Ends old new
+    go true is = over_turned is (s.over is)
+    go false is =
+        let same : Turned Ends old old = kept_turned (kept_same old) (λ n. subst (λ (b : Bool). EndsBy b old n [] old) (sym is) (record { none = refl; same = refl })) in
+        subst (λ (conn : Conn). Turned Ends old conn) (sym (s.on is)) same
 
 -- ---- a step
 
-pub stepped : {old mid new : Conn} {ev : Event} {n m : ℕ} {b d : Option (List Item)} → Heard old ev mid → Gave mid n b new m d → Stepped old ev n b new m d
-stepped {old} {mid} {new} {ev} {n} {m} {b} {d} h g =
+pub stepped : {stamp : Option ℕ} {old mid new : Conn} {ev : Event} {n m : ℕ} {b d : Option (List Item)} → Heard old ev mid → Hears old ev mid → Gave (Steps stamp) mid n b new m d
+    → Stepped old ev stamp n b new m d
+stepped {stamp} {old} {mid} {new} {ev} {n} {m} {b} {d} h x g =
     let number : number_of mid ≡ number_of old = ap (λ (v : Marks). v.c) h.marks in
     record {
       acts = g.acts;
@@ -595,7 +658,13 @@ stepped {old} {mid} {new} {ev} {n} {m} {b} {d} h g =
       form = subst (λ (v : Marks). are_given v g.acts ≡ true) h.marks g.form;
       marks = g.marks ∙ ap (λ (v : Marks). given_all v g.acts) h.marks;
       own = λ ks w. subst (λ (c : ℕ). AreOwn c n ks g.acts new) number (g.own ks (h.child ks w));
+      mid = mid;
+      heard = h;
+      exact = x;
+      later = g.moves;
+      does = g.does;
       moves = h.moves ++ g.moves;
+      are = refl;
       same = acts_of-append h.moves g.moves ∙ (ap (λ (l : List Act). l ++ acts_of g.moves) h.none ∙ g.same);
       keeps = λ e two settled known.
           led_then (site_of old) (number_of old) mid new (pushed e (In ev)) h.moves g.moves (h.keeps e two settled known)
@@ -606,7 +675,7 @@ stepped {old} {mid} {new} {ev} {n} {m} {b} {d} h g =
 pub heard_by : {old mid later new : Conn} {ev : Event} (m : Marks) → m ≡ noted (marks_of old) (In ev) → Kept (record old { marks = m }) mid
     → (is_tick (In ev) ≡ true → run_settled mid.run ≡ run_settled old.run) → HeardOwn mid ev later → Settles later new → Heard old ev new
 heard_by {old} {mid} {later} {new} {ev} m is one same two three =
-    let end : Turned later new = settles_turned three in
+    let end : Turned Ends later new = settles_turned three in
     let number : number_of mid ≡ number_of old = ap (λ (v : Marks). v.c) (one.marks ∙ is) in
     let later_number : number_of later ≡ number_of mid = ap (λ (v : Marks). v.c) two.marks in
     record {
@@ -637,27 +706,40 @@ write_allowed m k byte bytes may = and_from (may_write m && true) true (and_from
 
 -- ---- Writes
 
+-- bytes were written, or there was no room for them
+pub record Wrote (bytes : List ℕ) (found : Bool) (old : Conn) (n : ℕ) (moves : List Move) (new : Conn) : Type 0 where
+  pub moves_are : moves ≡ gives_all (acts_written old.marks.c bytes found)
+  pub is : new ≡ wrote bytes found old
+
 pub gave_write : {new : Conn} {n : ℕ} {b d : Option (List Item)} (bytes : List ℕ) (found : Bool) (old : Conn) → may_write (marks_of old) ≡ true → old.closing ≡ false
-    → new ≡ wrote bytes found old → Adds b (acts_written (number_of old) bytes found) d → Gave old n b new n d
+    → new ≡ wrote bytes found old → Adds b (acts_written (number_of old) bytes found) d → Gave (Wrote bytes found) old n b new n d
 gave_write {new} {n} {b} {d} bytes found old may open_yet is told =
-    subst (λ (conn : Conn). Gave old n b conn n d) (sym is) (go bytes found told)
+    subst (λ (conn : Conn). Gave (Wrote bytes found) old n b conn n d) (sym is) (go bytes found told)
   where
-    go : (text : List ℕ) (f : Bool) → Adds b (acts_written (number_of old) text f) d → Gave old n b (wrote text f old) n d
-    go [] f t = gave_still (kept_turned (kept_same old)) t
+    go : (text : List ℕ) (f : Bool) → Adds b (acts_written (number_of old) text f) d → Gave (Wrote text f) old n b (wrote text f old) n d
+    go [] f t = gave_still (kept_turned (kept_same old) (λ k. record { moves_are = refl; is = refl })) t
     go (byte ∷ text) true t =
         gave_plain (Write (number_of old) (byte ∷ text)) refl (write_allowed (marks_of old) (number_of old) byte text may) t
         (record { site = refl; marks = refl; peer_is = refl; child = λ ks w. w; front = refl; lost = λ l. l; reading = λ r. r })
-        (λ e known. sym known.closing ∙ open_yet)
-    go (byte ∷ text) false t = gave_still (kept_turned (losing_kept old)) t
+        (λ e known. sym known.closing ∙ open_yet) (record { moves_are = refl; is = refl })
+    go (byte ∷ text) false t = gave_still (kept_turned (losing_kept old) (λ k. record { moves_are = refl; is = refl })) t
+
+-- ---- memory is wanting
+
+pub loses_here : (conn : Conn) (n : ℕ) → Loses conn n [] (losing conn)
+loses_here conn n = record { none = refl; gives_up = record { is = refl; limits = refl; answered = refl } }
+
+pub gave_lost : {old new : Conn} {n : ℕ} {b d : Option (List Item)} → Kept old new → GivesUp old new → Adds b [] d → Gave (Part Loses) old n b new n d
+gave_lost {old} {new} {n} {b} {d} k up told = gave_part (gave_still (kept_turned k (λ i. record { none = refl; gives_up = up })) told)
 
 -- ---- 100 Continue
 
 pub gave_continue : {new : Conn} {n : ℕ} {b d : Option (List Item)} (found : Bool) (old : Conn) → may_write (marks_of old) ≡ true → old.closing ≡ false
-    → new ≡ continued found old → Adds b (acts_continued (number_of old) found) d → Gave old n b new n d
+    → new ≡ continued found old → Adds b (acts_continued (number_of old) found) d → Gave (Or Continues Loses) old n b new n d
 gave_continue {new} {n} {b} {d} found old may open_yet is told =
-    subst (λ (conn : Conn). Gave old n b conn n d) (sym is) (go found told)
+    subst (λ (conn : Conn). Gave (Or Continues Loses) old n b conn n d) (sym is) (go found told)
   where
-    go : (f : Bool) → Adds b (acts_continued (number_of old) f) d → Gave old n b (continued f old) n d
+    go : (f : Bool) → Adds b (acts_continued (number_of old) f) d → Gave (Or Continues Loses) old n b (continued f old) n d
     go true t = record {
       acts = Write (number_of old) continue_text ∷ [];
       told = t;
@@ -673,17 +755,18 @@ gave_continue {new} {n} {b} {d} found old may open_yet is told =
         continues_known (site_of old) (number_of old) (peer_of old) old.lost (is_reading old.stage) (front_of old) e a.1 known,
         (sym known.closing ∙ open_yet, tt),
       );
+      does = the_one (record { moves_are = refl; is = refl });
     }
-    go false t = gave_still (kept_turned (losing_kept old)) t
+    go false t = gave_still (kept_turned (losing_kept old) (λ k. the_other (loses_here old k))) t
 
 -- ---- the request was looked at
 
-pub looked : {new : Conn} (old : Conn) (i : Incoming) → site_of new ≡ site_of old → marks_of new ≡ marks_of old → peer_of new ≡ peer_of old
+pub looked : {A : Deed} {new : Conn} (old : Conn) (i : Incoming) → site_of new ≡ site_of old → marks_of new ≡ marks_of old → peer_of new ≡ peer_of old
     → ((ks : List ℕ) → HasChildIn old ks → HasChildIn new ks) → (old.lost ≡ true → new.lost ≡ true) → front_of new ≡ record (front_of old) { request = i }
     → limits_of i ≡ limits_of old.request
     → (new.lost ≡ false → (bytes : List ℕ) (taken : ℕ) → Knows old.request bytes taken → (is_reading old.stage ≡ true → is_ready old.request ≡ false)
-    → IsHeard i (is_reading new.stage) bytes) → Turned old new
-looked {new} old i site marks peer child lost front limits next = record {
+    → IsHeard i (is_reading new.stage) bytes) → ((n : ℕ) → A old n [] new) → Turned A old new
+looked {A} {new} old i site marks peer child lost front limits next does = record {
   site = site;
   marks = marks;
   peer_is = peer;
@@ -694,6 +777,7 @@ looked {new} old i site marks peer child lost front limits next = record {
       (λ e known. known_same site (ap (λ (m : Marks). m.c) marks) peer (λ l. l) (λ r. r) front
       (known_request (site_of old) (number_of old) (peer_of old) old.lost new.lost (is_reading old.stage) (is_reading new.stage) (front_of old) i e lost limits
       (λ l. next l (request_bytes (number_of old) e)) known));
+  does = does;
 }
 
 -- bytes that are 100 Continue

@@ -5,10 +5,12 @@ use Rattle.host_base.specs.declared.cause.Cause.{Cause}
 use Rattle.reply_kinds.specs.Derived.{is_header_whole}
 use Rattle.reply_stream.specs.declared.asked.Asked.{Asked}
 use Rattle.reply_stream.specs.declared.stream.Last.{Last}
+use Rattle.reply_stream.specs.declared.stream.Last.TheVariants as Ended
 use Rattle.reply_stream.specs.Writing.{Stood, nothing, begun, is_begun}
 use Rattle.exchange_reply.specs.declared.reply.LegReply.{LegReply}
-use Rattle.exchange_reply.specs.Reply.{Fails, Gives, Knows, SpellsFault}
-use Rattle.conn_core.specs.Ready.{EndsAs, HearsPiece, HearsTick}
+use Rattle.exchange_reply.specs.Reply.{Fails, Gives, Knows, MayEndWithout, SpellsFault}
+use Rattle.exchange_reply.specs.Standings.{Ends}
+use Rattle.conn_core.specs.Ready.{EndsAs, HearsPiece, HearsTick, Lacks}
 
 pub hears_piece : {E : Type 0} (result : Result (List ℕ) E) (old new : LegReply) (piece : List ℕ) (closes : Bool) (now : Option ℕ)
     → ((asked : Asked) (told : List ℕ) (ticked : Bool) (stood : Stood) → Knows old asked told ticked stood
@@ -55,3 +57,20 @@ fails_without asked cause closes now stood found is f = cuts_by asked cause clos
 
 pub ends_as : (reply : LegReply) (closes : Bool) (now : Option ℕ) (found last : Last) → found ≡ last → EndsAs reply closes now found → EndsAs reply closes now last
 ends_as reply closes now found last is e = subst (λ (l : Last). EndsAs reply closes now l) is e
+
+-- .. in a hop, or in no reply at all: nothing was written
+hop_lacks : (asked : Asked) (told : List ℕ) (closes : Bool) (now : Option ℕ) (stood : Stood) (location : List ℕ) → Ends asked told closes now stood (Ended.Hop location)
+    → MayEndWithout asked told stood
+hop_lacks asked told closes now nothing location e = tt
+hop_lacks asked told closes now (begun close stamp bytes) location e = absurd e
+
+pub lacks_hop : (reply : LegReply) (closes : Bool) (now : Option ℕ) (location : List ℕ) → EndsAs reply closes now (Ended.Hop location) → Lacks reply
+lacks_hop reply closes now location e asked told ticked stood k = hop_lacks asked told closes now stood location (e asked told ticked stood k)
+
+bad_lacks : (asked : Asked) (told : List ℕ) (closes : Bool) (now : Option ℕ) (stood : Stood) (cause : Cause) → Ends asked told closes now stood (Ended.Bad cause)
+    → MayEndWithout asked told stood
+bad_lacks asked told closes now nothing cause e = tt
+bad_lacks asked told closes now (begun close stamp bytes) cause e = absurd e
+
+pub lacks_bad : (reply : LegReply) (closes : Bool) (now : Option ℕ) (cause : Cause) → EndsAs reply closes now (Ended.Bad cause) → Lacks reply
+lacks_bad reply closes now cause e asked told ticked stood k = bad_lacks asked told closes now stood cause (e asked told ticked stood k)

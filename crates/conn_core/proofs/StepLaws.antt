@@ -26,40 +26,41 @@ use Rattle.trace_model.specs.Exchanges.{current, current_after, has_ended, next_
 use Rattle.trace_model.proofs.ExchangeLaws.{current-step}
 use Rattle.conn_front.specs.Moves.{AreInStep, moved}
 use Rattle.conn_front.proofs.MoveLaws.{moves_cut}
-use Rattle.conn_core.specs.Kept.{HasChildIn, StandsFor, Stepped, is_settled_as, marks_of, number_of, site_of}
+use Rattle.conn_core.specs.Kept.{HasChildIn, StandsFor, is_settled_as, marks_of, number_of, site_of}
 use Rattle.conn_core.specs.Slot.{run_settled}
+use Rattle.conn_core.specs.Step.{Stepped}
 
 event_known : (limit : ℕ) (m : Marks) (L : List Item) (ev : Event) → KnowsMarks m L → fits_own limit L ev ≡ true → KnowsMarks (noted m (In ev)) (L ++ In ev ∷ [])
 event_known limit m L ev k f = known_next m L (In ev) k (events_admitted limit m L ev k f)
 
-pub step_known : (limit : ℕ) (old new : Conn) (ev : Event) (n m : ℕ) (before after : Option (List Item)) (L : List Item)
-    → (s : Stepped old ev n before new m after) → KnowsMarks (marks_of old) L → fits_own limit L ev ≡ true
+pub step_known : (limit : ℕ) (old new : Conn) (ev : Event) (stamp : Option ℕ) (n m : ℕ) (before after : Option (List Item)) (L : List Item)
+    → (s : Stepped old ev stamp n before new m after) → KnowsMarks (marks_of old) L → fits_own limit L ev ≡ true
     → KnowsMarks (marks_of new) (after_step L ev s.acts)
-step_known limit old new ev n m before after L s k f =
+step_known limit old new ev stamp n m before after L s k f =
     let all : KnowsMarks (given_all (noted (marks_of old) (In ev)) s.acts) ((L ++ In ev ∷ []) ++ map Out s.acts) =
     known_all (noted (marks_of old) (In ev)) (L ++ In ev ∷ []) s.acts (event_known limit (marks_of old) L ev k f) s.form in
     subst (λ (v : Marks). KnowsMarks v (after_step L ev s.acts)) (sym s.marks)
     (subst (λ (l : List Item). KnowsMarks (given_all (noted (marks_of old) (In ev)) s.acts) l) (append_assoc L (In ev ∷ []) (map Out s.acts)) all)
 
-pub step_in_form : (limit : ℕ) (old new : Conn) (ev : Event) (n m : ℕ) (before after : Option (List Item)) (L : List Item) (ks : List ℕ)
-    → (s : Stepped old ev n before new m after) → KnowsMarks (marks_of old) L → HasChildIn old ks → fits_own limit L ev ≡ true
+pub step_in_form : (limit : ℕ) (old new : Conn) (ev : Event) (stamp : Option ℕ) (n m : ℕ) (before after : Option (List Item)) (L : List Item) (ks : List ℕ)
+    → (s : Stepped old ev stamp n before new m after) → KnowsMarks (marks_of old) L → HasChildIn old ks → fits_own limit L ev ≡ true
     → all_come (L ++ In ev ∷ []) s.acts ≡ true
-step_in_form limit old new ev n m before after L ks s k w f =
+step_in_form limit old new ev stamp n m before after L ks s k w f =
     acts_come (noted (marks_of old) (In ev)) (L ++ In ev ∷ []) ks n s.acts (event_known limit (marks_of old) L ev k f) (s.own ks w).are s.form
 
-pub step_in_time : (limit : ℕ) (old new : Conn) (ev : Event) (n m : ℕ) (before after : Option (List Item)) (L : List Item)
-    → (s : Stepped old ev n before new m after) → KnowsMarks (marks_of old) L → fits_own limit L ev ≡ true
+pub step_in_time : (limit : ℕ) (old new : Conn) (ev : Event) (stamp : Option ℕ) (n m : ℕ) (before after : Option (List Item)) (L : List Item)
+    → (s : Stepped old ev stamp n before new m after) → KnowsMarks (marks_of old) L → fits_own limit L ev ≡ true
     → all_in_time (number_of old) (L ++ In ev ∷ []) s.acts ≡ true
-step_in_time limit old new ev n m before after L s k f =
+step_in_time limit old new ev stamp n m before after L s k f =
     acts_in_time (noted (marks_of old) (In ev)) (L ++ In ev ∷ []) s.acts (event_known limit (marks_of old) L ev k f) s.form
 
-pub step_fronts : (old new : Conn) (ev : Event) (n m : ℕ) (before after : Option (List Item)) (L : List Item)
-    → (s : Stepped old ev n before new m after) → 2 ≤ (site_of old).limits.head
+pub step_fronts : (old new : Conn) (ev : Event) (stamp : Option ℕ) (n m : ℕ) (before after : Option (List Item)) (L : List Item)
+    → (s : Stepped old ev stamp n before new m after) → 2 ≤ (site_of old).limits.head
     → run_settled old.run ≡ is_settled_as old (current (site_of old) (number_of old) L) → StandsFor old (current (site_of old) (number_of old) L)
     → AreInStep (site_of old) (number_of old) (pushed (current (site_of old) (number_of old) L) (In ev)) s.moves
     → has_ended (site_of old) (number_of old) (moved (site_of old) (number_of old) (pushed (current (site_of old) (number_of old) L) (In ev)) s.moves) ≡ false
     → StandsFor new (current (site_of old) (number_of old) (after_step L ev s.acts))
-step_fronts old new ev n m before after L s two settled known in_step on =
+step_fronts old new ev stamp n m before after L s two settled known in_step on =
     let site = site_of old in
     let c = number_of old in
     let first : Exchange = pushed (current site c L) (In ev) in
@@ -74,11 +75,11 @@ stops_by : (stopped live : Bool) → (stopped ≡ true → live ≡ false) → i
 stops_by true live h = ap (λ (b : Bool). not b) (h refl)
 stops_by false live h = refl
 
-pub step_stops : (limit : ℕ) (site : Site) (old new : Conn) (ev : Event) (n m : ℕ) (before after : Option (List Item)) (L : List Item)
-    → (s : Stepped old ev n before new m after) → KnowsMarks (marks_of old) L → fits_own limit L ev ≡ true → Stops (marks_of new)
+pub step_stops : (limit : ℕ) (site : Site) (old new : Conn) (ev : Event) (stamp : Option ℕ) (n m : ℕ) (before after : Option (List Item)) (L : List Item)
+    → (s : Stepped old ev stamp n before new m after) → KnowsMarks (marks_of old) L → fits_own limit L ev ≡ true → Stops (marks_of new)
     → stops (number_of old) (goes_on site (number_of old) (step_of L ev s.acts)) ≡ true
-step_stops limit site old new ev n m before after L s k f stops_then =
-    let known : KnowsMarks (marks_of new) (after_step L ev s.acts) = step_known limit old new ev n m before after L s k f in
+step_stops limit site old new ev stamp n m before after L s k f stops_then =
+    let known : KnowsMarks (marks_of new) (after_step L ev s.acts) = step_known limit old new ev stamp n m before after L s k f in
     let says = marks_say (marks_of new) (after_step L ev s.acts) known in
     let c_is : (marks_of new).c ≡ number_of old = ap (λ (v : Marks). v.c) s.marks ∙ given_all-number (noted (marks_of old) (In ev)) s.acts in
     let live : is_live_then (number_of old) (after_step L ev s.acts) ≡ is_live (marks_of new) =

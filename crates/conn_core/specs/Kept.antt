@@ -90,8 +90,8 @@ pub record Kept (old new : Conn) : Type 0 where
   pub lost : old.lost ≡ true → new.lost ≡ true
   pub reading : is_reading old.stage ≡ false → is_reading new.stage ≡ false
 
--- The connection is the same, and its exchange goes on, or the next one does.
-pub record Turned (old new : Conn) : Type 0 where
+-- The connection is the same, and its exchange goes on, or the next one does; this was done.
+pub record Turned (Does : Conn → ℕ → List Move → Conn → Type 0) (old new : Conn) : Type 0 where
   pub site : site_of new ≡ site_of old
   pub marks : marks_of new ≡ marks_of old
   pub peer_is : peer_of new ≡ peer_of old
@@ -99,6 +99,7 @@ pub record Turned (old new : Conn) : Type 0 where
   pub moves : List Move
   pub none : acts_of moves ≡ []
   pub keeps : Leads (site_of old) (number_of old) old new moves
+  pub does : (n : ℕ) → Does old n moves new
 
 -- an event was taken into account for the exchange that goes on
 pub record HeardOwn (old : Conn) (ev : Event) (new : Conn) : Type 0 where
@@ -132,8 +133,8 @@ pub record AreOwn (c n : ℕ) (ks : List ℕ) (acts : List Act) (new : Conn) : T
 -- Acts of the connection and its child alone were given, each of them in form, and nothing else was; its marks know
 -- them; and the next child's number counts the Starts among them. The acts, and the ends of exchanges between them, lead
 -- from the exchange that it stood for to the one that it stands for, where they keep step with the model, and each act
--- belongs to its exchange.
-pub record Gave (old : Conn) (n : ℕ) (before : Option (List Item)) (new : Conn) (m : ℕ) (after : Option (List Item)) : Type 0 where
+-- belongs to its exchange; and this was done.
+pub record Gave (Does : Conn → ℕ → List Move → Conn → Type 0) (old : Conn) (n : ℕ) (before : Option (List Item)) (new : Conn) (m : ℕ) (after : Option (List Item)) : Type 0 where
   pub acts : List Act
   pub told : Adds before acts after
   pub next : m ≡ next_after n acts
@@ -145,18 +146,4 @@ pub record Gave (old : Conn) (n : ℕ) (before : Option (List Item)) (new : Conn
   pub moves : List Move
   pub same : acts_of moves ≡ acts
   pub keeps : Leads (site_of old) (number_of old) old new moves
-
--- the same of a whole step, in which first the event was heard
-pub record Stepped (old : Conn) (ev : Event) (n : ℕ) (before : Option (List Item)) (new : Conn) (m : ℕ) (after : Option (List Item)) : Type 0 where
-  pub acts : List Act
-  pub told : Adds before acts after
-  pub next : m ≡ next_after n acts
-  pub site : site_of new ≡ site_of old
-  pub peer_is : peer_of new ≡ peer_after (peer_of old) ev
-  pub form : are_given (noted (marks_of old) (In ev)) acts ≡ true
-  pub marks : marks_of new ≡ given_all (noted (marks_of old) (In ev)) acts
-  pub own : (ks : List ℕ) → HasChildIn old ks → AreOwn (number_of old) n ks acts new
-  pub moves : List Move
-  pub same : acts_of moves ≡ acts
-  pub keeps : (e : Exchange) → 2 ≤ (site_of old).limits.head → run_settled old.run ≡ is_settled_as old e → StandsFor old e
-      → Led (site_of old) (number_of old) new (pushed e (In ev)) moves
+  pub does : Does old n moves new

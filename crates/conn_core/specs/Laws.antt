@@ -15,32 +15,33 @@ use Rattle.trace_model.specs.Steps.{goes_on}
 use Rattle.trace_model.specs.Stops.{stops}
 use Rattle.conn_front.specs.Moves.{AreInStep, moved}
 use Rattle.conn_core.specs.Reasons.{Stops}
-use Rattle.conn_core.specs.Kept.{HasChildIn, StandsFor, Stepped, is_settled_as, marks_of, number_of, site_of}
+use Rattle.conn_core.specs.Kept.{HasChildIn, StandsFor, is_settled_as, marks_of, number_of, site_of}
 use Rattle.conn_core.specs.Slot.{run_settled}
+use Rattle.conn_core.specs.Step.{Stepped}
 
 -- Where the marks of a connection know the list, they know it with the step of an event that fits.
 abbrev pub StepsAreKnown : Type 0
-StepsAreKnown = (limit : ℕ) (old new : Conn) (ev : Event) (n m : ℕ) (before after : Option (List Item)) (L : List Item)
-    → (s : Stepped old ev n before new m after) → KnowsMarks (marks_of old) L → fits_own limit L ev ≡ true
+StepsAreKnown = (limit : ℕ) (old new : Conn) (ev : Event) (stamp : Option ℕ) (n m : ℕ) (before after : Option (List Item)) (L : List Item)
+    → (s : Stepped old ev stamp n before new m after) → KnowsMarks (marks_of old) L → fits_own limit L ev ≡ true
     → KnowsMarks (marks_of new) (after_step L ev s.acts)
 
 -- .. and each act of the step on the connection comes in form.
 abbrev pub StepsAreInForm : Type 0
-StepsAreInForm = (limit : ℕ) (old new : Conn) (ev : Event) (n m : ℕ) (before after : Option (List Item)) (L : List Item) (ks : List ℕ)
-    → (s : Stepped old ev n before new m after) → KnowsMarks (marks_of old) L → HasChildIn old ks → fits_own limit L ev ≡ true
+StepsAreInForm = (limit : ℕ) (old new : Conn) (ev : Event) (stamp : Option ℕ) (n m : ℕ) (before after : Option (List Item)) (L : List Item) (ks : List ℕ)
+    → (s : Stepped old ev stamp n before new m after) → KnowsMarks (marks_of old) L → HasChildIn old ks → fits_own limit L ev ≡ true
     → all_come (L ++ In ev ∷ []) s.acts ≡ true
 
 -- .. and Starts and questions wait for room, and come before the server is to end.
 abbrev pub StepsAreInTime : Type 0
-StepsAreInTime = (limit : ℕ) (old new : Conn) (ev : Event) (n m : ℕ) (before after : Option (List Item)) (L : List Item)
-    → (s : Stepped old ev n before new m after) → KnowsMarks (marks_of old) L → fits_own limit L ev ≡ true
+StepsAreInTime = (limit : ℕ) (old new : Conn) (ev : Event) (stamp : Option ℕ) (n m : ℕ) (before after : Option (List Item)) (L : List Item)
+    → (s : Stepped old ev stamp n before new m after) → KnowsMarks (marks_of old) L → fits_own limit L ev ≡ true
     → all_in_time (number_of old) (L ++ In ev ∷ []) s.acts ≡ true
 
 -- Where its front is that of the exchange that goes on, and its acts and the ends of exchanges that it notices keep step
 -- with the model, so is it after the step of an event, at whose end no exchange has ended that it hasn't noticed.
 abbrev pub StepsKeepFronts : Type 0
-StepsKeepFronts = (old new : Conn) (ev : Event) (n m : ℕ) (before after : Option (List Item)) (L : List Item)
-    → (s : Stepped old ev n before new m after) → 2 ≤ (site_of old).limits.head
+StepsKeepFronts = (old new : Conn) (ev : Event) (stamp : Option ℕ) (n m : ℕ) (before after : Option (List Item)) (L : List Item)
+    → (s : Stepped old ev stamp n before new m after) → 2 ≤ (site_of old).limits.head
     → run_settled old.run ≡ is_settled_as old (current (site_of old) (number_of old) L) → StandsFor old (current (site_of old) (number_of old) L)
     → AreInStep (site_of old) (number_of old) (pushed (current (site_of old) (number_of old) L) (In ev)) s.moves
     → has_ended (site_of old) (number_of old) (moved (site_of old) (number_of old) (pushed (current (site_of old) (number_of old) L) (In ev)) s.moves) ≡ false
@@ -48,6 +49,6 @@ StepsKeepFronts = (old new : Conn) (ev : Event) (n m : ℕ) (before after : Opti
 
 -- After Stop it is shut, as the model says.
 abbrev pub StepsStop : Type 0
-StepsStop = (limit : ℕ) (site : Site) (old new : Conn) (ev : Event) (n m : ℕ) (before after : Option (List Item)) (L : List Item)
-    → (s : Stepped old ev n before new m after) → KnowsMarks (marks_of old) L → fits_own limit L ev ≡ true → Stops (marks_of new)
+StepsStop = (limit : ℕ) (site : Site) (old new : Conn) (ev : Event) (stamp : Option ℕ) (n m : ℕ) (before after : Option (List Item)) (L : List Item)
+    → (s : Stepped old ev stamp n before new m after) → KnowsMarks (marks_of old) L → fits_own limit L ev ≡ true → Stops (marks_of new)
     → stops (number_of old) (goes_on site (number_of old) (step_of L ev s.acts)) ≡ true

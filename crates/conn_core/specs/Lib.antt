@@ -4,6 +4,11 @@ pub mod Moves
 pub mod Settles
 pub mod Writes
 pub mod Reasons
+pub mod Tells
 pub mod Ready
 pub mod Begins
+pub mod New
+pub mod Hears
+pub mod Parts
+pub mod Step
 pub mod Laws

@@ -16,11 +16,11 @@ use Rattle.child_core.specs.View.{View}
 use Rattle.trace_model.specs.Answer.{request_of_hop}
 use Rattle.trace_model.specs.Closes.{is_nph, persists_by}
 use Rattle.trace_model.specs.Readings.{headed, is_head_request, is_whole}
-use Rattle.exchange_request.specs.Knows.{Finds, Knows, is_looked_at, is_ready, limits_of, reading_of}
+use Rattle.exchange_request.specs.Knows.{Finds, Knows, is_read, is_ready, limits_of, reading_of}
 use Rattle.exchange_request.specs.declared.found.Found.{Found}
 use Rattle.exchange_request.specs.declared.found.Found.TheVariants as Seen
 use Rattle.exchange_reply.specs.declared.reply.LegReply.{LegReply}
-use Rattle.exchange_reply.specs.Reply.{Gives, Knows as KnowsReply, SpellsFault, closes_of}
+use Rattle.exchange_reply.specs.Reply.{Gives, Knows as KnowsReply, MayEndWithout, SpellsFault, closes_of}
 use Rattle.exchange_reply.specs.Standings.{Ends}
 use Rattle.exchange_stage.specs.declared.stage.Leg.{Leg}
 use Rattle.exchange_stage.specs.declared.stage.Stage.{Stage}
@@ -45,11 +45,11 @@ drained_run (Some v) = Some (drained v)
 
 -- ---- the request
 
--- these bytes were heard for the request, and looked at
+-- these bytes were heard for the request, and looked at as far as they are its own
 pub record ReadsAll (conn : Conn) (bytes : List ℕ) : Type 0 where
   pub taken : ℕ
   pub knows : Knows conn.request bytes taken
-  pub looked : is_looked_at conn.request ≡ true
+  pub looked : is_read conn.request ≡ true
 
 -- whether an answer of a script of this kind that begins now closes the connection (RFC 9112 9.3 and 9.6)
 abbrev pub closes_with : Conn → ScriptKind → List ℕ → Bool
@@ -137,6 +137,10 @@ pub record Concludes (leg : Leg) (stamp : Option ℕ) (old new : Conn) : Type 0 
   pub last : Last
   pub ends : EndsAs leg.reply closes_now stamp last
   pub with : EndsWith leg closes_now stamp old new last
+
+-- memory may be wanting for its end, whatever it knew before
+abbrev pub Lacks : LegReply → Type 0
+Lacks reply = (asked : Asked) (told : List ℕ) (ticked : Bool) (stood : Stood) → KnowsReply reply asked told ticked stood → MayEndWithout asked told stood
 
 -- ---- its run failed
 

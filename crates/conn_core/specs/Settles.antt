@@ -2,7 +2,9 @@
 use Rattle.std.specs.Prelude.{Bool, true, false, ◌&&◌, ◌≡◌, None}
 use Rattle.exchange_stage.specs.declared.stage.Stage.{Stage}
 use Rattle.exchange_stage.specs.declared.stage.Stage.TheVariants.{Answered, Reading}
+use Rattle.exchange_request.specs.Knows.{is_taken}
 use Rattle.conn_front.specs.Hearing.{GoesOn}
+use Rattle.conn_front.specs.Moves.{Ending}
 use Rattle.conn_core.specs.declared.conn.Conn.{Conn}
 use Rattle.conn_core.specs.Kept.{front_of, marks_of, peer_of, site_of}
 use Rattle.conn_core.specs.Slot.{run_settled}
@@ -14,6 +16,10 @@ is_answered _ = false
 -- the whole answer stands, and no child is left
 abbrev pub is_over : Conn → Bool
 is_over conn = is_answered conn.stage && run_settled conn.run
+
+-- what is held of the exchange then
+abbrev pub ending_of : Conn → Ending
+ending_of conn = record { closes = conn.closes; idled = conn.idled; lost = conn.lost; taken = is_taken conn.request }
 
 -- the next exchange begins
 pub record Follows (old new : Conn) : Type 0 where

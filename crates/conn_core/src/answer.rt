@@ -67,7 +67,8 @@ fn request_of_hop(
     Ok(Some(redirected(alloc, request, target)?))
 }
 
-fn is_head(request: &Request) -> bool
+// A reply to it has no body (RFC 9110 9.3.2).
+pub(crate) fn is_head(request: &Request) -> bool
     ensures { result ≡ is_head_request (Some request.now) }
 {
     request.method.as_slice() == b"HEAD".as_slice()
@@ -75,17 +76,24 @@ fn is_head(request: &Request) -> bool
 
 impl<'s> Conn<'s> {
     ghost use Rattle.std.specs.Prelude.{ℕ, ◌≡◌, IfOk};
-    ghost use Rattle.std.specs.Prelude.{List, true, false, []};
+    ghost use Rattle.std.specs.Prelude.{List, None, Some, true, false, []};
+    ghost use Rattle.child_core.specs.declared.ending.Outcome.TheVariants.{Output};
+    ghost use Rattle.exchange_stage.specs.declared.stage.Leg.{Leg};
+    ghost use Rattle.exchange_stage.specs.declared.stage.Stage.TheVariants.{Running};
     ghost use Rattle.exchange_request.specs.Knows.{bare_of};
     ghost use Rattle.conn_core.specs.Kept.{Gave, Kept, site_of};
     ghost use Rattle.conn_core.specs.Begins.{ByOutcome, ReadiesAnswer};
-    ghost use Rattle.conn_core.specs.Ready.{Breaks, Concludes, Faults, HearsPiece, HearsTick, ReadsAll, Tells, closes_with, drained_run, outcome_of_run, stage_of_hop, undrained};
+    ghost use Rattle.conn_core.specs.Parts.{GivesUp};
+    ghost use Rattle.conn_core.specs.Ready.{Breaks, Concludes, Faults, HearsPiece, HearsTick, Lacks, ReadsAll, Tells, closes_with, drained_run, outcome_of_run, stage_of_hop, undrained};
     ghost use Rattle.reply_writer.specs.WholeRules.{IsStamp};
 
     // Makes ready what is due of the exchange's answer.
     pub(crate) fn ready_answer(&mut self, now: Option<u64>)
         requires { IsStamp now }
         ensures kept { Kept self.old self.new }
+        ensures gives_up { self.old.lost ≡ false → self.new.lost ≡ true → GivesUp self.old self.new }
+        ensures lacks { (leg : Leg) → self.old.stage ≡ Running leg → outcome_of_run self.old.run ≡ Some Output
+            → self.old.lost ≡ false → self.new.lost ≡ true → Lacks leg.reply }
         ensures answer { self.new.lost ≡ false → ReadiesAnswer self.old.stage now self.old self.new }
     {
         match self.take_stage() {
@@ -100,6 +108,7 @@ impl<'s> Conn<'s> {
     pub(crate) fn ready_fault(&mut self, cause: Cause, bare: bool, closes: bool, now: Option<u64>)
         requires { IsStamp now }
         ensures kept { Kept self.old self.new }
+        ensures gives_up { self.old.lost ≡ false → self.new.lost ≡ true → GivesUp self.old self.new }
         ensures fault { self.new.lost ≡ false → Faults cause bare closes now self.old self.new }
     {
         match fault_text(self.alloc, cause, bare, closes, now) {
@@ -111,6 +120,7 @@ impl<'s> Conn<'s> {
     fn ready_broken(&mut self, cause: Cause, now: Option<u64>)
         requires { IsStamp now }
         ensures kept { Kept self.old self.new }
+        ensures gives_up { self.old.lost ≡ false → self.new.lost ≡ true → GivesUp self.old self.new }
         ensures fault { self.new.lost ≡ false → Faults cause (bare_of self.old.request) true now self.old self.new }
     {
         match self.request.is_bare() {
@@ -123,6 +133,8 @@ impl<'s> Conn<'s> {
     fn ready_by_run(&mut self, leg: Leg, now: Option<u64>)
         requires { IsStamp now }
         ensures kept { Kept self.old self.new }
+        ensures gives_up { self.old.lost ≡ false → self.new.lost ≡ true → GivesUp self.old self.new }
+        ensures lacks { outcome_of_run self.old.run ≡ Some Output → self.old.lost ≡ false → self.new.lost ≡ true → Lacks leg.reply }
         ensures by { self.new.lost ≡ false → ByOutcome (outcome_of_run self.old.run) leg now self.old self.new }
     {
         match self.outcome() {
@@ -153,6 +165,7 @@ impl<'s> Conn<'s> {
     fn ready_part(&mut self, leg: Leg, now: Option<u64>)
         requires { IsStamp now }
         ensures kept { Kept self.old self.new }
+        ensures gives_up { outcome_of_run self.old.run ≡ None → self.old.lost ≡ false → self.new.lost ≡ true → GivesUp self.old self.new }
         ensures part { self.new.lost ≡ false → Tells leg now self.old self.new }
     {
         let mut leg = leg;
@@ -209,6 +222,8 @@ impl<'s> Conn<'s> {
     fn ready_last(&mut self, leg: Leg, now: Option<u64>)
         requires { IsStamp now }
         ensures kept { Kept self.old self.new }
+        ensures gives_up { self.old.lost ≡ false → self.new.lost ≡ true → GivesUp self.old self.new }
+        ensures lacks { self.old.lost ≡ false → self.new.lost ≡ true → Lacks leg.reply }
         ensures last { self.new.lost ≡ false → Concludes leg now self.old self.new }
     {
         let closes_now = self.closes_by(leg.kind);
@@ -230,6 +245,7 @@ impl<'s> Conn<'s> {
     // A local redirect.
     fn hop(&mut self, hop: u32, request: &Request, location: &Bytes)
         ensures kept { Kept self.old self.new }
+        ensures gives_up { self.old.lost ≡ false → self.new.lost ≡ true → GivesUp self.old self.new }
         ensures hop { self.new.lost ≡ false → self.new ≡ record self.old { stage = stage_of_hop (site_of self.old) hop request.now location.now } }
     {
         if hop >= self.site.limits.redirects {
@@ -249,6 +265,7 @@ impl<'s> Conn<'s> {
     fn ready_failure(&mut self, leg: Leg, cause: Cause, now: Option<u64>)
         requires { IsStamp now }
         ensures kept { Kept self.old self.new }
+        ensures gives_up { self.old.lost ≡ false → self.new.lost ≡ true → GivesUp self.old self.new }
         ensures failed { self.new.lost ≡ false → Breaks leg cause now self.old self.new }
     {
         let closes = self.closes_by(leg.kind);

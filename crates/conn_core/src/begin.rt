@@ -6,6 +6,7 @@ ghost use Rattle.std.specs.Str.{is_utf8};
 ghost use Rattle.std.specs.Prelude.{Some};
 ghost use Rattle.trace_model.specs.Places.{script_of};
 
+use crate::answer::is_head;
 use crate::conn::Conn;
 use exchange_reply::LegReply;
 use exchange_stage::{Leg, Stage};
@@ -56,9 +57,10 @@ fn script_at<'a>(site: &'a Site, mapped: &Mapped) -> Option<&'a Script>
 
 impl<'s> Conn<'s> {
     ghost use Rattle.std.specs.Prelude.{ℕ, ◌≡◌, IfOk};
-    ghost use Rattle.std.specs.Prelude.{false};
+    ghost use Rattle.std.specs.Prelude.{true, false};
     ghost use Rattle.conn_core.specs.Begins.{Finds, IsLegOf, Launches, Places, ReadiesHop, Refuses, Starts};
     ghost use Rattle.conn_core.specs.Kept.{Gave, Kept, site_of};
+    ghost use Rattle.conn_core.specs.Parts.{GivesUp};
     ghost use Rattle.reply_writer.specs.WholeRules.{IsStamp};
     ghost use Rattle.host_base.specs.SiteRules.{IsServed};
 
@@ -67,6 +69,7 @@ impl<'s> Conn<'s> {
         requires stamp { IsStamp now }
         requires served { IsServed (site_of self.old) }
         ensures kept { Kept self.old self.new }
+        ensures gives_up { self.old.lost ≡ false → self.new.lost ≡ true → GivesUp self.old self.new }
         ensures hop { self.new.lost ≡ false → ReadiesHop self.old.stage now self.old self.new }
     {
         match self.take_stage() {
@@ -80,6 +83,7 @@ impl<'s> Conn<'s> {
     fn ready_refusal(&mut self, cause: Cause, now: Option<u64>)
         requires { IsStamp now }
         ensures kept { Kept self.old self.new }
+        ensures gives_up { self.old.lost ≡ false → self.new.lost ≡ true → GivesUp self.old self.new }
         ensures refusal { self.new.lost ≡ false → Refuses cause now self.old self.new }
     {
         let bare = match self.request.manner() {
@@ -95,6 +99,7 @@ impl<'s> Conn<'s> {
         requires stamp { IsStamp now }
         requires served { IsServed (site_of self.old) }
         ensures kept { Kept self.old self.new }
+        ensures gives_up { self.old.lost ≡ false → self.new.lost ≡ true → GivesUp self.old self.new }
         ensures place { self.new.lost ≡ false → Places hop request now self.old self.new }
     {
         match map(self.alloc, self.site, &request.target) {
@@ -107,6 +112,7 @@ impl<'s> Conn<'s> {
     fn ready_script(&mut self, hop: u32, request: Request, mapped: Mapped, now: Option<u64>)
         requires { IsStamp now }
         ensures kept { Kept self.old self.new }
+        ensures gives_up { self.old.lost ≡ false → self.new.lost ≡ true → GivesUp self.old self.new }
         ensures script { self.new.lost ≡ false → Finds hop request mapped now self.old self.new }
     {
         let Some(script) = script_at(self.site, &mapped) else {
@@ -127,6 +133,7 @@ impl<'s> Conn<'s> {
     // The Start of a hop's script.
     fn ready_start(&mut self, hop: u32, kind: ScriptKind, request: Request, mapped: &Mapped)
         ensures kept { Kept self.old self.new }
+        ensures gives_up { self.old.lost ≡ false → self.new.lost ≡ true → GivesUp self.old self.new }
         ensures start { self.new.lost ≡ false → Starts hop kind request mapped.now self.old self.new }
     {
         let launch = match self.launch_of(&request, mapped) {
@@ -154,7 +161,7 @@ impl<'s> Conn<'s> {
         let asked = Asked {
             kind,
             version: request.version,
-            head_only: request.method.as_slice() == b"HEAD".as_slice(),
+            head_only: is_head(&request),
         };
         Leg {
             hop,

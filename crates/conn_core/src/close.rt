@@ -14,19 +14,16 @@ impl<'s> Conn<'s> {
     ghost use Rattle.host_trace.specs.Kinds.{is_no_memory};
     ghost use Rattle.conn_core.specs.Kept.{Gave, Kept, site_of};
     ghost use Rattle.conn_core.specs.Moves.{given_up_by};
-    ghost use Rattle.conn_core.specs.Reasons.{Stops, ends_with, hears_at, is_done_with, takes_more_of, why_of};
-    ghost use Rattle.conn_marks.specs.View.{has_room};
-    ghost use Rattle.std.specs.Prelude.{not, ◌&&◌};
-    ghost use Rattle.exchange_request.specs.Knows.{Knows, limits_of};
-    ghost use Rattle.std.specs.Prelude.{Bool, List, ◌≤◌};
+    ghost use Rattle.conn_core.specs.Parts.{Asks, Closes, Part, Shuts, Wants};
+    ghost use Rattle.conn_core.specs.Reasons.{Stops, hears_at, takes_more_of};
+    ghost use Rattle.conn_core.specs.Tells.{TellsAsk, TellsWhy};
     // Why the connection is to be shut.
     fn why(&self) -> Option<Why>
         ensures live { is_some result ≡ true → is_live self.now.marks ≡ true }
         ensures stops { is_some result ≡ false → self.now.marks.stopped ≡ true → is_live self.now.marks ≡ false }
-        ensures why { (bytes : List ℕ) (taken : ℕ) → 2 ≤ (limits_of self.now.request).head → Knows self.now.request bytes taken
-            → result ≡ why_of self.now (is_done_with self.now bytes) }
-        ensures lost { self.now.lost ≡ true → (done : Bool) → result ≡ why_of self.now done }
+        ensures tells { TellsWhy self.now result }
     {
+        let done = self.is_client_done();
         if !self.marks.is_live() {
             None
         } else if self.lost {
@@ -39,7 +36,7 @@ impl<'s> Conn<'s> {
             Some(Why::Cut(cause))
         } else if self.idled {
             Some(Why::Idle)
-        } else if self.closing || self.closes || self.is_client_done() {
+        } else if self.closing || self.closes || done {
             Some(Why::Done)
         } else {
             None
@@ -49,7 +46,7 @@ impl<'s> Conn<'s> {
     // Shuts the connection where that is due.
     pub(crate) fn close<O: Outside>(&mut self, out: &mut O)
         ensures stops { Stops self.new.marks }
-        ensures gave { (n : ℕ) → Gave self.old n (O.trace out.old) self.new n (O.trace out.new) }
+        ensures gave { (n : ℕ) → Gave (Part Closes) self.old n (O.trace out.old) self.new n (O.trace out.new) }
         ensures limit { O.limit out.new ≡ O.limit out.old }
     {
         if let Some(why) = self.why() {
@@ -60,7 +57,7 @@ impl<'s> Conn<'s> {
     pub(crate) fn shut_for<O: Outside>(&mut self, why: Why, out: &mut O)
         requires { is_live self.old.marks ≡ true }
         ensures shut { is_live self.new.marks ≡ false }
-        ensures gave { (n : ℕ) → Gave self.old n (O.trace out.old) self.new n (O.trace out.new) }
+        ensures gave { (n : ℕ) → Gave (Shuts why) self.old n (O.trace out.old) self.new n (O.trace out.new) }
         ensures limit { O.limit out.new ≡ O.limit out.old }
     {
         let number = self.marks.c();
@@ -102,7 +99,7 @@ impl<'s> Conn<'s> {
     // Asks the client where it must be heard.
     pub(crate) fn want<O: Outside>(&mut self, out: &mut O)
         ensures stops { Stops self.old.marks → Stops self.new.marks }
-        ensures gave { (n : ℕ) → Gave self.old n (O.trace out.old) self.new n (O.trace out.new) }
+        ensures gave { (n : ℕ) → Gave (Part Wants) self.old n (O.trace out.old) self.new n (O.trace out.new) }
         ensures limit { O.limit out.new ≡ O.limit out.old }
     {
         if self.is_ask_due() {
@@ -112,8 +109,7 @@ impl<'s> Conn<'s> {
 
     fn is_ask_due(&self) -> bool
         ensures allowed { result ≡ true → is_allowed self.now.marks (WantClient self.now.marks.c) ≡ true }
-        ensures exact { (bytes : List ℕ) (taken : ℕ) → 2 ≤ (limits_of self.now.request).head → Knows self.now.request bytes taken
-            → result ≡ not (ends_with self.now (is_done_with self.now bytes)) && has_room self.now.marks && hears_at self.now self.now.stage && not self.now.marks.asked }
+        ensures tells { TellsAsk self.now result }
     {
         !self.is_ending() && self.has_room() && self.may_hear() && !self.marks.is_asked()
     }
@@ -121,7 +117,7 @@ impl<'s> Conn<'s> {
     fn ask<O: Outside>(&mut self, out: &mut O)
         requires { is_allowed self.old.marks (WantClient self.old.marks.c) ≡ true }
         ensures stops { Stops self.old.marks → Stops self.new.marks }
-        ensures gave { (n : ℕ) → Gave self.old n (O.trace out.old) self.new n (O.trace out.new) }
+        ensures gave { (n : ℕ) → Gave Asks self.old n (O.trace out.old) self.new n (O.trace out.new) }
         ensures limit { O.limit out.new ≡ O.limit out.old }
     {
         let number = self.marks.c();

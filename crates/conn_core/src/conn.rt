@@ -50,14 +50,16 @@ pub struct Conn<'s> {
 }
 
 impl<'s> Conn<'s> {
-    ghost use Rattle.std.specs.Prelude.{ℕ, ◌≡◌, IfOk};
+    ghost use Rattle.std.specs.Prelude.{ℕ, ◌≡◌, ◌≤◌, IfOk};
     ghost use Rattle.std.specs.Prelude.{None, true, false};
     ghost use Rattle.conn_marks.specs.View.{fresh, has_room, may_write};
-    ghost use Rattle.conn_core.specs.Kept.{Gave, Kept, Stepped, is_reading, marks_of, number_of, peer_of, site_of};
+    ghost use Rattle.conn_core.specs.Kept.{Gave, Kept, is_reading, marks_of, number_of, peer_of, site_of};
+    ghost use Rattle.conn_core.specs.New.{IsNew};
+    ghost use Rattle.conn_core.specs.Parts.{Drops};
+    ghost use Rattle.conn_core.specs.Step.{Stepped};
+    ghost use Rattle.conn_core.specs.Tells.{TellsDone, TellsEnding};
     ghost use Rattle.conn_core.specs.Slot.{child_of, held_of, run_settled};
-    ghost use Rattle.conn_core.specs.Reasons.{Stops, ends_with, is_done_with};
-    ghost use Rattle.exchange_request.specs.Knows.{Knows, limits_of};
-    ghost use Rattle.std.specs.Prelude.{List, ◌≤◌};
+    ghost use Rattle.conn_core.specs.Reasons.{Stops};
     ghost use Rattle.reply_writer.specs.WholeRules.{IsStamp};
     ghost use Rattle.host_base.specs.SiteRules.{IsServed};
     /// Connection `c`, which is not accepted yet. It takes no memory.
@@ -67,6 +69,7 @@ impl<'s> Conn<'s> {
         ensures marks { marks_of result ≡ fresh c }
         ensures peer { peer_of result ≡ None }
         ensures child { child_of result ≡ None }
+        ensures new { 2 ≤ site.now.limits.head → IsNew result }
     {
         Conn {
             site,
@@ -99,7 +102,7 @@ impl<'s> Conn<'s> {
     ) -> Held
         requires stamp { IsStamp now }
         requires served { IsServed (site_of self.old) }
-        ensures gave { Stepped self.old ev children.old (O.trace out.old) self.new children.new (O.trace out.new) }
+        ensures gave { Stepped self.old ev now children.old (O.trace out.old) self.new children.new (O.trace out.new) }
         ensures held { result ≡ held_of self.new }
         ensures stops { Stops (marks_of self.new) }
         ensures limit { O.limit out.new ≡ O.limit out.old }
@@ -113,7 +116,7 @@ impl<'s> Conn<'s> {
 
     /// Shuts the connection for a reason of its caller, unless it is shut or was not accepted. It takes no memory.
     pub fn drop_it<O: Outside>(&mut self, why: Why, out: &mut O)
-        ensures gave { (n : ℕ) → Gave self.old n (O.trace out.old) self.new n (O.trace out.new) }
+        ensures gave { (n : ℕ) → Gave (Drops why) self.old n (O.trace out.old) self.new n (O.trace out.new) }
         ensures limit { O.limit out.new ≡ O.limit out.old }
     {
         if self.marks.is_live() {
@@ -185,9 +188,9 @@ impl<'s> Conn<'s> {
         ensures live { result ≡ false → may_write self.now.marks ≡ true }
         ensures stopped { result ≡ false → self.now.marks.stopped ≡ false }
         ensures closing { result ≡ false → self.now.closing ≡ false }
-        ensures exact { (bytes : List ℕ) (taken : ℕ) → 2 ≤ (limits_of self.now.request).head → Knows self.now.request bytes taken
-            → result ≡ ends_with self.now (is_done_with self.now bytes) }
+        ensures tells { TellsEnding self.now result }
     {
+        let done = self.is_client_done();
         !self.marks.may_write()
             || self.marks.is_stopped()
             || self.marks.is_gone()
@@ -196,13 +199,12 @@ impl<'s> Conn<'s> {
             || self.closing
             || self.closes
             || self.cut.is_some()
-            || self.is_client_done()
+            || done
     }
 
     /// The client ended its input, and no request has begun.
     pub(crate) fn is_client_done(&self) -> bool
-        ensures { (bytes : List ℕ) (taken : ℕ) → 2 ≤ (limits_of self.now.request).head → Knows self.now.request bytes taken
-            → result ≡ is_done_with self.now bytes }
+        ensures { TellsDone self.now result }
     {
         self.marks.has_ended() && matches!(self.stage, Stage::Reading) && !self.request.has_begun()
     }

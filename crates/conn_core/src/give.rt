@@ -25,11 +25,16 @@ impl<'s> Conn<'s> {
     ghost use Rattle.std.specs.Prelude.{ℕ, ◌≡◌, IfOk, true};
     ghost use Rattle.conn_marks.specs.View.{may_write};
     ghost use Rattle.conn_marks.specs.Form.{may_start};
+    ghost use Rattle.child_core.specs.Calls.{offered};
+    ghost use Rattle.child_core.specs.View.{begun};
     ghost use Rattle.conn_core.specs.Kept.{Gave, Kept, site_of};
+    ghost use Rattle.conn_core.specs.Parts.{FinishesBy, Gives, GivesHop, LetsOn, Loses, Or, Part, StartsRun, WritesPart};
+    ghost use Rattle.conn_core.specs.Tells.{TellsContinue};
     ghost use Rattle.conn_core.specs.Moves.{ended_run, losing};
-    ghost use Rattle.conn_core.specs.Settles.{Follows, Settles, is_over, stood};
+    ghost use Rattle.conn_core.specs.Settles.{Follows, Settles, is_answered, is_over, stood};
     ghost use Rattle.conn_core.specs.Writes.{acts_continued, acts_written, continued, wrote};
     ghost use Rattle.host_trace.specs.Told.{Adds};
+    ghost use Rattle.trace_child.specs.Words.{is_filled};
     ghost use Rattle.std.specs.Prelude.{false, ◌<◌, ◌^◌, ◌-◌};
     // Memory was wanting: the connection is over, and its child is given up.
     pub(crate) fn lose(&mut self)
@@ -53,6 +58,7 @@ impl<'s> Conn<'s> {
     fn write<O: Outside>(&mut self, bytes: Bytes, out: &mut O) -> bool
         ensures value { self.new ≡ wrote bytes result self.old }
         ensures told { Adds (O.trace out.old) (acts_written self.old.marks.c bytes result) (O.trace out.new) }
+        ensures filled { result ≡ false → is_filled bytes ≡ true }
         ensures limit { O.limit out.new ≡ O.limit out.old }
     {
         if bytes.is_empty() {
@@ -79,7 +85,7 @@ impl<'s> Conn<'s> {
 
     // 100 Continue, where it is due (RFC 9110 10.1.1).
     pub(crate) fn let_continue<O: Outside>(&mut self, out: &mut O)
-        ensures gave { (n : ℕ) → Gave self.old n (O.trace out.old) self.new n (O.trace out.new) }
+        ensures gave { (n : ℕ) → Gave (Part LetsOn) self.old n (O.trace out.old) self.new n (O.trace out.new) }
         ensures limit { O.limit out.new ≡ O.limit out.old }
     {
         if self.is_continue_due() {
@@ -107,15 +113,20 @@ impl<'s> Conn<'s> {
     pub(crate) fn is_continue_due(&self) -> bool
         ensures may { result ≡ true → may_write self.now.marks ≡ true }
         ensures closing { result ≡ true → self.now.closing ≡ false }
+        ensures tells { TellsContinue self.now result }
     {
-        !self.is_ending() && self.request.is_due() && !self.continued
+        let awaited = self.request.is_due();
+        if self.is_ending() {
+            return false;
+        }
+        awaited && !self.continued
     }
 
     // Gives what is ready of an answer: a part, or all that is left.
     pub(crate) fn give_answer<O: Outside>(&mut self, out: &mut O)
         requires may { may_write self.old.marks ≡ true }
         requires open { self.old.closing ≡ false }
-        ensures gave { (n : ℕ) → Gave self.old n (O.trace out.old) self.new n (O.trace out.new) }
+        ensures gave { (n : ℕ) → Gave Gives self.old n (O.trace out.old) self.new n (O.trace out.new) }
         ensures limit { O.limit out.new ≡ O.limit out.old }
     {
         match self.take_stage() {
@@ -129,7 +140,7 @@ impl<'s> Conn<'s> {
     pub(crate) fn give_hop<O: Outside>(&mut self, children: &mut u64, out: &mut O)
         requires may { may_start self.old.marks ≡ true }
         requires open { self.old.closing ≡ false }
-        ensures gave { Gave self.old children.old (O.trace out.old) self.new children.new (O.trace out.new) }
+        ensures gave { Gave GivesHop self.old children.old (O.trace out.old) self.new children.new (O.trace out.new) }
         ensures limit { O.limit out.new ≡ O.limit out.old }
     {
         match self.take_stage() {
@@ -152,7 +163,8 @@ impl<'s> Conn<'s> {
     fn give_part<O: Outside>(&mut self, leg: Leg, out: &mut O)
         requires may { may_write self.old.marks ≡ true }
         requires open { self.old.closing ≡ false }
-        ensures gave { (n : ℕ) → Gave self.old n (O.trace out.old) self.new n (O.trace out.new) }
+        requires writing { is_answered self.old.stage ≡ false }
+        ensures gave { (n : ℕ) → Gave (Or (Part (WritesPart leg)) (Part Loses)) self.old n (O.trace out.old) self.new n (O.trace out.new) }
         ensures limit { O.limit out.new ≡ O.limit out.old }
     {
         let mut leg = leg;
@@ -164,7 +176,7 @@ impl<'s> Conn<'s> {
     fn give_rest<O: Outside>(&mut self, text: Bytes, closes: bool, out: &mut O)
         requires may { may_write self.old.marks ≡ true }
         requires open { self.old.closing ≡ false }
-        ensures gave { (n : ℕ) → Gave self.old n (O.trace out.old) self.new n (O.trace out.new) }
+        ensures gave { (n : ℕ) → Gave (FinishesBy text closes) self.old n (O.trace out.old) self.new n (O.trace out.new) }
         ensures limit { O.limit out.new ≡ O.limit out.old }
     {
         if !self.write(text, out) {
@@ -184,7 +196,7 @@ impl<'s> Conn<'s> {
 
     // The run of the next child, to which its input is offered.
     fn run_of(&self, k: u64, kind: ScriptKind, body: &Bytes, whole: bool) -> Result<Run, NoMemory>
-        ensures { IfOk result (λ run. run.number ≡ k) }
+        ensures { IfOk result (λ run. run ≡ offered (begun k kind (site_of self.now).limits) body.now whole) }
     {
         let mut run = Run::new(self.alloc, k, kind, &self.site.limits);
         run.offer(body.as_slice(), whole)?;
@@ -202,7 +214,7 @@ impl<'s> Conn<'s> {
         requires number { run.number ≡ children.old }
         requires may { may_start self.old.marks ≡ true }
         requires open { self.old.closing ≡ false }
-        ensures gave { Gave self.old children.old (O.trace out.old) self.new children.new (O.trace out.new) }
+        ensures gave { Gave (Or (Part (StartsRun leg launch run)) (Part Loses)) self.old children.old (O.trace out.old) self.new children.new (O.trace out.new) }
         ensures limit { O.limit out.new ≡ O.limit out.old }
     {
         let k = *children;

@@ -7,7 +7,7 @@ use host_trace::Event;
 use limit_clock::Deadline;
 
 impl<'s> Conn<'s> {
-    ghost use Rattle.std.specs.Prelude.{ℕ, ◌≡◌, ◌≤◌, ◌||◌, ◌&&◌, ◌==◌, not, IfOk, OnOk, is_some};
+    ghost use Rattle.std.specs.Prelude.{ℕ, ◌≡◌, ◌≤◌, ◌||◌, ◌&&◌, ◌==◌, not, IfOk, OnErr, OnOk, is_some};
     ghost use Rattle.std.specs.Prelude.{List, Some, true, false};
     ghost use Rattle.host_trace.specs.declared.items.Item.TheVariants.{In};
     ghost use Rattle.host_trace.specs.declared.items.Event.TheVariants.{Accepted, ClientBytes, Tick};
@@ -16,19 +16,25 @@ impl<'s> Conn<'s> {
     ghost use Rattle.exchange_request.specs.Knows.{Knows, limits_of};
     ghost use Rattle.conn_core.specs.Kept.{Heard, HeardOwn, Kept, peer_of, site_of};
     ghost use Rattle.conn_core.specs.Moves.{IdlesOut, OnlyBody, grown_stage, ticked_stage};
+    ghost use Rattle.conn_core.specs.Settles.{is_answered};
     ghost use Rattle.conn_core.specs.Slot.{run_settled};
+    ghost use Rattle.conn_core.specs.Hears.{Hears, HearsBody, HearsBytes, HearsEnd, HearsOwn, HearsTick, IdleEnds, Interrupts, Offers, accepted, is_untouched, keeps_of, offered_run, takes_body, told_run};
+    ghost use Rattle.exchange_request.specs.Knows.{is_taken};
+    ghost use Rattle.host_base.specs.declared.cause.Cause.TheVariants as Why;
     // Takes an event into account, and gives no act.
     pub(crate) fn hear(&mut self, ev: Event)
         ensures heard { Heard self.old ev self.new }
+        ensures exact { Hears self.old ev self.new }
     {
         self.marks.hear(&ev);
-        self.hear_run(&ev);
+        let _found = self.hear_run(&ev);
         self.hear_own(ev);
         self.settle();
     }
 
     fn hear_own(&mut self, ev: Event)
-        ensures { HeardOwn self.old ev self.new }
+        ensures front { HeardOwn self.old ev self.new }
+        ensures own { HearsOwn ev self.old self.new }
     {
         match ev {
             Event::Accepted { peer } => self.hear_accepted(peer),
@@ -57,8 +63,10 @@ impl<'s> Conn<'s> {
         }
     }
 
-    // What its child hears.
-    fn hear_run(&mut self, ev: &Event)
+    // What its child hears; false where there was no room for its output.
+    fn hear_run(&mut self, ev: &Event) -> bool
+        ensures value { self.new ≡ told_run ev.now result self.old }
+        ensures memory { result ≡ false → keeps_of self.old.run ev.now ≡ true }
         ensures kept { Kept self.old self.new }
         ensures settled { is_tick (In ev.now) ≡ true → run_settled self.new.run ≡ run_settled self.old.run }
     {
@@ -66,13 +74,16 @@ impl<'s> Conn<'s> {
             None => Ok(()),
             Some(run) => run.hear(ev),
         };
-        if heard.is_err() {
+        let found = heard.is_ok();
+        if !found {
             self.lose();
         }
+        found
     }
 
     fn hear_accepted(&mut self, peer: Peer)
-        ensures { HeardOwn self.old (Accepted peer) self.new }
+        ensures front { HeardOwn self.old (Accepted peer) self.new }
+        ensures own { self.new ≡ accepted peer self.old }
     {
         self.idle_left = Deadline::after(self.site.limits.idle_ticks);
         if self.peer.is_none() {
@@ -81,46 +92,58 @@ impl<'s> Conn<'s> {
     }
 
     fn hear_bytes(&mut self, bytes: Bytes)
-        ensures { HeardOwn self.old (ClientBytes self.old.marks.c bytes) self.new }
+        ensures front { HeardOwn self.old (ClientBytes self.old.marks.c bytes) self.new }
+        ensures own { HearsBytes bytes self.old self.new }
     {
         self.idle_left = Deadline::after(self.site.limits.idle_ticks);
         match self.request.feed(bytes.as_slice()) {
-            Ok(()) => self.hear_body(),
+            Ok(()) => {
+                let _found = self.hear_body();
+            }
             Err(_) => self.lose(),
         }
     }
 
-    // Offers the child what came of the body of a request that is served already.
-    fn hear_body(&mut self)
-        ensures { OnlyBody self.old self.new }
+    // Offers the child what came of the body of a request that is served already; false where memory was wanting.
+    fn hear_body(&mut self) -> bool
+        ensures front { OnlyBody self.old self.new }
+        ensures own { HearsBody result self.old self.new }
     {
         if matches!(self.stage, Stage::Reading)
             || self.request.is_whole()
             || self.request.manner().is_none()
         {
-            return;
+            return true;
         }
         match self.request.more_body() {
             Ok(body) => self.offer(body),
-            Err(_) => self.lose(),
+            Err(_) => {
+                self.lose();
+                false
+            }
         }
     }
 
-    fn offer(&mut self, body: Bytes)
+    // False where memory was wanting.
+    fn offer(&mut self, body: Bytes) -> bool
         ensures kept { Kept self.old self.new }
+        ensures own { Offers result body self.old self.new }
     {
         let kept = self.keep_body(&body);
         let offered = self.offer_run(&body);
-        if kept.is_err() || offered.is_err() {
+        let found = kept.is_ok() && offered.is_ok();
+        if !found {
             self.lose();
         }
+        found
     }
 
     // A script that waits for its turn is started with what came of the body until then.
     fn keep_body(&mut self, body: &Bytes) -> Result<(), NoMemory>
         ensures kept { Kept self.old self.new }
-        ensures stage { OnOk result (self.new.stage ≡ grown_stage body.now self.old.stage) }
-        ensures run { self.new.run ≡ self.old.run }
+        ensures value { OnOk result (self.new ≡ record self.old { stage = grown_stage body.now self.old.stage }) }
+        ensures rest { self.new ≡ record self.old { stage = self.new.stage } }
+        ensures answered { is_answered self.new.stage ≡ is_answered self.old.stage }
     {
         if let Stage::Unstarted { hop, request } = &mut self.stage {
             if *hop == 0 {
@@ -133,7 +156,8 @@ impl<'s> Conn<'s> {
     // One that runs is offered it.
     fn offer_run(&mut self, body: &Bytes) -> Result<(), NoMemory>
         ensures kept { Kept self.old self.new }
-        ensures stage { self.new.stage ≡ self.old.stage }
+        ensures value { OnOk result (self.new ≡ record self.old { run = offered_run (takes_body self.old.stage self.old.run) body.now (is_taken self.old.request) self.old.run }) }
+        ensures err { OnErr result (self.new ≡ self.old) }
     {
         let whole = self.request.is_whole();
         let is_first = matches!(&self.stage, Stage::Running(leg) if leg.hop == 0);
@@ -146,6 +170,7 @@ impl<'s> Conn<'s> {
     // The end of the client's input.
     fn hear_end(&mut self)
         ensures kept { Kept self.old self.new }
+        ensures own { HearsEnd self.old self.new }
     {
         if self.request.is_whole() {
             return;
@@ -163,6 +188,7 @@ impl<'s> Conn<'s> {
     // A request that has begun, and for which nothing was done, is broken.
     fn interrupt(&mut self, cause: Cause)
         ensures kept { Kept self.old self.new }
+        ensures own { Interrupts cause self.old self.new }
     {
         if self.is_untouched() && !self.marks.is_shut() && self.request.has_begun() {
             self.put(Stage::Interrupted(cause));
@@ -170,7 +196,9 @@ impl<'s> Conn<'s> {
     }
 
     // Nothing was done for its request.
-    fn is_untouched(&self) -> bool {
+    fn is_untouched(&self) -> bool
+        ensures { result ≡ is_untouched self.now }
+    {
         match &self.stage {
             Stage::Reading | Stage::Refused(_) | Stage::Unstarted { .. } => self.run.is_none(),
             _ => false,
@@ -178,7 +206,8 @@ impl<'s> Conn<'s> {
     }
 
     fn hear_tick(&mut self)
-        ensures { (secs : ℕ) → HeardOwn self.old (Tick secs) self.new }
+        ensures front { (secs : ℕ) → HeardOwn self.old (Tick secs) self.new }
+        ensures own { HearsTick self.old self.new }
     {
         self.note_tick();
         if self.is_settled() && self.idle_left.tick() {
@@ -197,7 +226,8 @@ impl<'s> Conn<'s> {
 
     // The client sent nothing for the idle time.
     fn idle_out(&mut self)
-        ensures { IdlesOut self.old self.new }
+        ensures front { IdlesOut self.old self.new }
+        ensures own { IdleEnds self.old self.new }
     {
         if self.request.has_begun() {
             self.interrupt(Cause::IdleTime);

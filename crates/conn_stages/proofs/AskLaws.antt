@@ -1,5 +1,5 @@
 -- When the client is to be heard.
-use Rattle.std.proofs.Common.{◌≡◌, ℕ, ◌==◌, Bool, true, false, ◌&&◌, ◌||◌, not, List, ◌∷◌, ◌++◌, [], Option, Some, None, is_some, option_map, refl, sym, ap, ◌∙◌, subst}
+use Rattle.std.proofs.Common.{◌≡◌, ◌==◌, Bool, true, false, ◌&&◌, ◌||◌, not, List, ◌∷◌, ◌++◌, [], Option, Some, None, is_some, option_map, refl, sym, ap, ◌∙◌, subst}
 use Rattle.std.proofs.lemmas.Bool.{false≢true}
 use Rattle.host_base.specs.declared.limits.Limits.{Limits}
 use Rattle.host_trace.specs.Decider.{Outcome as Read, derived, failed, unanswered}
@@ -14,9 +14,7 @@ use Rattle.trace_model.specs.Demands.{client_ended, has_room as room_then, is_li
 use Rattle.trace_model.specs.Exchange.{Exchange, all_of, reading, request_bytes}
 use Rattle.trace_model.specs.Legs.{Leg as Started, run_of}
 use Rattle.trace_model.specs.Readings.{is_whole}
-use Rattle.exchange_request.specs.Knows.{Knows, StandsBy, is_looked_at, is_taken, reading_of}
-use Rattle.exchange_request.specs.declared.found.Manner.{Manner}
-use Rattle.exchange_request.specs.declared.incoming.Incoming.{Incoming}
+use Rattle.exchange_request.specs.Knows.{is_looked_at, is_taken}
 use Rattle.conn_front.specs.Front.{IsHeard}
 use Rattle.exchange_request.proofs.KnowsLaws.{knows_whole}
 use Rattle.exchange_stage.specs.declared.stage.Leg.{Leg}
@@ -35,10 +33,9 @@ use Rattle.conn_laws.proofs.FormLaws.{marks_say}
 use Rattle.conn_marks.specs.View.{has_room, is_live}
 use Rattle.conn_core.specs.declared.conn.Conn.{Conn}
 use Rattle.conn_core.specs.Kept.{is_reading, marks_of, number_of, site_of}
-use Rattle.conn_core.specs.Ready.{outcome_of_run, undrained}
+use Rattle.conn_core.specs.Ready.{outcome_of_run}
 use Rattle.conn_core.specs.Reasons.{hears_at, takes_more_of}
 use Rattle.conn_stages.specs.Staged.{MayAsk}
-use Rattle.conn_stages.proofs.EndLaws.{or_none}
 use Rattle.conn_stages.proofs.StagedLaws.{no_last, outcome_told}
 
 and_none : (a b : Bool) → (a && b && false) ≡ false
@@ -50,19 +47,11 @@ dead : (a b c : Bool) → a ≡ false → (a && b && c) ≡ false
 dead true b c e = absurd (false≢true (sym e))
 dead false b c e = refl
 
-whole_by : (i : Incoming) (bytes : List ℕ) (taken : ℕ) (m : Option Manner) (w : Bool) → w ≡ true → StandsBy i m w bytes taken → is_whole (reading_of i bytes) ≡ true
-whole_by i bytes taken m false w s = absurd (false≢true w)
-whole_by i bytes taken None true w s = absurd s
-whole_by i bytes taken (Some manner) true w s = ap is_whole s.is
-
-taken_whole : (i : Incoming) (bytes : List ℕ) (taken : ℕ) → Knows i bytes taken → is_taken i ≡ true → is_whole (reading_of i bytes) ≡ true
-taken_whole i bytes taken k is = whole_by i bytes taken i.manner i.whole is k.stands
-
 module _ (conn : Conn) (e : Exchange) (legs : List Started) (may : MayAsk conn e legs) where
   asks : (stage : Stage) → conn.stage ≡ stage → AsksAre (site_of conn) (number_of conn) e legs stage
   asks stage at =
       subst (λ (s : Stage). AsksAre (site_of conn) (number_of conn) e legs s) at
-      (asks_are_staged (site_of conn) (number_of conn) e legs conn.continued (is_looked_at conn.request) (conn.closing || conn.closes) (undrained conn.run) conn.stage may.staged may.rests may.front.http)
+      (asks_are_staged (site_of conn) (number_of conn) e legs conn.continued (is_looked_at conn.request) (conn.closing || conn.closes) may.staged.more conn.stage may.staged.is may.rests may.front.http)
 
   live_same : live_then (number_of conn) (all_of e) ≡ is_live (marks_of conn)
   live_same = sym (marks_say (marks_of conn) (all_of e) may.marks).live
@@ -79,20 +68,14 @@ module _ (conn : Conn) (e : Exchange) (legs : List Started) (may : MayAsk conn e
   none f = f ∙ sym (and_none (is_live (marks_of conn)) (has_room (marks_of conn)))
 
   taken_is : e.closed ≡ false → is_taken conn.request ≡ is_whole (reading (site_of conn) (number_of conn) e)
-  taken_is unclosed = go (is_taken conn.request) refl ∙ ap (λ (l : Limits). is_whole (read_request l (request_bytes (number_of conn) e))) may.front.limits
+  taken_is unclosed = knows_whole conn.request (request_bytes (number_of conn) e) h.taken h.knows may.looked ∙ ap (λ (l : Limits). is_whole (read_request l (request_bytes (number_of conn) e))) may.front.limits
     where
       h : IsHeard conn.request (is_reading conn.stage) (request_bytes (number_of conn) e)
       h = may.front.request may.found unclosed
 
-      go : (b : Bool) → is_taken conn.request ≡ b → is_taken conn.request ≡ is_whole (reading_of conn.request (request_bytes (number_of conn) e))
-      go true is = is ∙ sym (taken_whole conn.request (request_bytes (number_of conn) e) h.taken h.knows is)
-      go false is =
-          knows_whole conn.request (request_bytes (number_of conn) e) h.taken h.knows
-          (sym (or_none (is_looked_at conn.request)) ∙ (ap (λ (b : Bool). is_looked_at conn.request || b) (sym is) ∙ may.looked))
-
   module _ (held : Leg) (at : conn.stage ≡ At.Running held) where
-    abbrev running : StageIs (site_of conn) (number_of conn) e legs conn.continued (is_looked_at conn.request) (conn.closing || conn.closes) (undrained conn.run) (At.Running held)
-    running = subst (λ (s : Stage). StageIs (site_of conn) (number_of conn) e legs conn.continued (is_looked_at conn.request) (conn.closing || conn.closes) (undrained conn.run) s) at may.staged
+    abbrev running : StageIs (site_of conn) (number_of conn) e legs conn.continued (is_looked_at conn.request) (conn.closing || conn.closes) may.staged.more (At.Running held)
+    running = subst (λ (s : Stage). StageIs (site_of conn) (number_of conn) e legs conn.continued (is_looked_at conn.request) (conn.closing || conn.closes) may.staged.more s) at may.staged.is
 
     abbrev leg : Started
     leg = leg_held held running.0.child
@@ -113,7 +96,7 @@ module _ (conn : Conn) (e : Exchange) (legs : List Started) (may : MayAsk conn e
         ap (λ (b : Bool). held.hop == 0 && not b && is_all_taken e.items leg.child) (sym (taken_is running.0.unclosed))
         ∙ ap (λ (b : Bool). held.hop == 0 && not (is_taken conn.request) && b) takes
 
-    by_rest : (o : Option Read) → RunRests (number_of conn) e (undrained conn.run) held o → is_some o ≡ true → live_then (number_of conn) (all_of e) ≡ false
+    by_rest : (o : Option Read) → RunRests (number_of conn) e may.staged.more held o → is_some o ≡ true → live_then (number_of conn) (all_of e) ≡ false
     by_rest None r some = absurd (false≢true some)
     by_rest (Some derived) r some = absurd r
     by_rest (Some unanswered) r some = r
@@ -123,8 +106,8 @@ module _ (conn : Conn) (e : Exchange) (legs : List Started) (may : MayAsk conn e
     some_read None e = e
     some_read (Some o) e = refl
 
-    rests_at : Rests (site_of conn) (number_of conn) e legs (is_looked_at conn.request) (undrained conn.run) (At.Running held)
-    rests_at = subst (λ (s : Stage). Rests (site_of conn) (number_of conn) e legs (is_looked_at conn.request) (undrained conn.run) s) at may.rests
+    rests_at : Rests (site_of conn) (number_of conn) e legs (is_looked_at conn.request) may.staged.more (At.Running held)
+    rests_at = subst (λ (s : Stage). Rests (site_of conn) (number_of conn) e legs (is_looked_at conn.request) may.staged.more s) at may.rests
 
     heard : (o : Option Outcome) → outcome_of_run conn.run ≡ o
         → must_hear (site_of conn) (number_of conn) e ≡ (is_live (marks_of conn) && has_room (marks_of conn) && hears_at conn (At.Running held))
@@ -136,7 +119,7 @@ module _ (conn : Conn) (e : Exchange) (legs : List Started) (may : MayAsk conn e
         let read_is : outcome_of (run_of (site_of conn) (number_of conn) e leg) e.items ≡ Some (read o) =
         outcome_told (site_of conn) (number_of conn) e may.next legs conn.run may.children leg last ∙ ap (λ (p : Option Outcome). option_map read p) is in
         let over : live_then (number_of conn) (all_of e) ≡ false =
-        by_rest (Some (read o)) (subst (λ (p : Option Read). RunRests (number_of conn) e (undrained conn.run) held p) read_is (rests_at.1 leg last)) refl in
+        by_rest (Some (read o)) (subst (λ (p : Option Read). RunRests (number_of conn) e may.staged.more held p) read_is (rests_at.1 leg last)) refl in
         (asks (At.Running held) at).shut over ∙ sym (dead (is_live (marks_of conn)) (has_room (marks_of conn)) (hears_at conn (At.Running held)) (sym live_same ∙ over))
 
   by_stage : (stage : Stage) → conn.stage ≡ stage

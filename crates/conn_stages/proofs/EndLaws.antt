@@ -34,11 +34,10 @@ use Rattle.conn_children.proofs.KnowLaws.{unsettled_exact}
 use Rattle.conn_front.specs.Moves.{HasEnded}
 use Rattle.conn_core.specs.declared.conn.Conn.{Conn}
 use Rattle.conn_core.specs.Kept.{number_of, site_of}
-use Rattle.conn_core.specs.Ready.{undrained}
-use Rattle.conn_core.specs.Settles.{is_answered, is_over, stood}
+use Rattle.conn_core.specs.Settles.{ending_of, is_answered, is_over, stood}
 use Rattle.conn_core.specs.Slot.{run_settled}
 use Rattle.conn_core.specs.Writes.{continued, wrote as wrote_of}
-use Rattle.conn_stages.specs.Staged.{MaySettle, Staged, ending_of}
+use Rattle.conn_stages.specs.Staged.{MaySettle, Staged}
 
 -- ---- words
 
@@ -104,7 +103,7 @@ pub ends_taken : (conn : Conn) (e : Exchange) (legs : List Started) (early : Boo
 ends_taken conn e legs early next staged children unended =
     let settled : not (has_unsettled e.items (number_of conn)) ≡ run_settled conn.run =
     ap (λ (b : Bool). not b) (unsettled_exact (site_of conn) (number_of conn) e early next legs conn.run children) ∙ (not_not (is_settled_run conn.run) ∙ same_settled conn.run) in
-    ends_are_answered (site_of conn) (number_of conn) e legs conn.continued (is_looked_at conn.request) (conn.closing || conn.closes) (undrained conn.run) conn.stage staged unended
+    ends_are_answered (site_of conn) (number_of conn) e legs conn.continued (is_looked_at conn.request) (conn.closing || conn.closes) staged.more conn.stage staged.is unended
     ∙ (ap (λ (b : Bool). b && answers conn.stage) settled
     ∙ (ap (λ (b : Bool). run_settled conn.run && b) (same_answered conn.stage) ∙ and_swap (run_settled conn.run) (is_answered conn.stage)))
 
@@ -112,8 +111,8 @@ pub ends_noticed : (conn : Conn) (e : Exchange) (legs : List Started) → 2 ≤ 
     → HasEnded (site_of conn) (number_of conn) e (ending_of conn)
 ends_noticed conn e legs two may over =
     let at : conn.stage ≡ At.Answered = is_at_answered conn.stage (left_true (is_answered conn.stage) (run_settled conn.run) over) in
-    let answered : StageIs (site_of conn) (number_of conn) e legs conn.continued (is_looked_at conn.request) (conn.closing || conn.closes) (undrained conn.run) At.Answered =
-    subst (λ (s : Stage). StageIs (site_of conn) (number_of conn) e legs conn.continued (is_looked_at conn.request) (conn.closing || conn.closes) (undrained conn.run) s) at may.staged in
+    let answered : StageIs (site_of conn) (number_of conn) e legs conn.continued (is_looked_at conn.request) (conn.closing || conn.closes) may.staged.more At.Answered =
+    subst (λ (s : Stage). StageIs (site_of conn) (number_of conn) e legs conn.continued (is_looked_at conn.request) (conn.closing || conn.closes) may.staged.more s) at may.staged.is in
     let open_yet : conn.closing ≡ false = may.front.closing ∙ answered.unclosed in
     record {
       over = ends_taken conn e legs may.early may.next may.staged may.children (subst (λ (s : Stage). IsUnended (site_of conn) (number_of conn) e legs s) (sym at) tt) ∙ over;
@@ -122,17 +121,15 @@ ends_noticed conn e legs two may over =
       taken = λ found stays_open.
           let none : (conn.closing || conn.closes) ≡ false = ap (λ (b : Bool). b || conn.closes) open_yet ∙ right_false e.closed conn.closes stays_open in
           let whole : is_whole (reading (site_of conn) (number_of conn) e) ≡ true =
-          answered_are_read (site_of conn) (number_of conn) e legs conn.continued (is_looked_at conn.request) (undrained conn.run) two
-          (subst (λ (b : Bool). StageIs (site_of conn) (number_of conn) e legs conn.continued (is_looked_at conn.request) b (undrained conn.run) At.Answered) none answered) in
-          go found answered.unclosed whole (is_taken conn.request) refl;
+          answered_are_read (site_of conn) (number_of conn) e legs conn.continued (is_looked_at conn.request) may.staged.more two
+          (subst (λ (b : Bool). StageIs (site_of conn) (number_of conn) e legs conn.continued (is_looked_at conn.request) b may.staged.more At.Answered) none answered) in
+          read found answered.unclosed whole;
     }
   where
-    go : conn.lost ≡ false → e.closed ≡ false → is_whole (reading (site_of conn) (number_of conn) e) ≡ true → (b : Bool) → is_taken conn.request ≡ b → is_taken conn.request ≡ true
-    go found unclosed whole true is = is
-    go found unclosed whole false is =
-        let looked : is_looked_at conn.request ≡ true = sym (or_none (is_looked_at conn.request)) ∙ (ap (λ (b : Bool). is_looked_at conn.request || b) (sym is) ∙ may.looked) in
+    read : conn.lost ≡ false → e.closed ≡ false → is_whole (reading (site_of conn) (number_of conn) e) ≡ true → is_taken conn.request ≡ true
+    read found unclosed whole =
         let h = may.front.request found unclosed in
-        knows_whole conn.request (request_bytes (number_of conn) e) h.taken h.knows looked
+        knows_whole conn.request (request_bytes (number_of conn) e) h.taken h.knows may.looked
         ∙ (ap (λ (l : Limits). is_whole (read_request l (request_bytes (number_of conn) e))) may.front.limits ∙ whole)
 
 -- ---- acts
@@ -140,47 +137,52 @@ ends_noticed conn e legs two may over =
 pub continues_staged : (conn : Conn) (e : Exchange) (legs : List Started) → 2 ≤ (site_of conn).limits.head → Staged conn e legs → is_unanswered conn.stage ≡ true
     → conn.continued ≡ false → is_awaited (site_of conn) (number_of conn) e ≡ true
     → Staged (continued true conn) (pushed e (Out (Write (number_of conn) continue_text))) legs
-continues_staged conn e legs two staged unanswered first awaited =
-    continues_are_written (site_of conn) (number_of conn) e legs (is_looked_at conn.request) (conn.closing || conn.closes) (undrained conn.run) conn.stage two unanswered
-    (subst (λ (b : Bool). StageIs (site_of conn) (number_of conn) e legs b (is_looked_at conn.request) (conn.closing || conn.closes) (undrained conn.run) conn.stage) first staged) awaited
+continues_staged conn e legs two staged unanswered first awaited = record {
+  more = staged.more;
+  kept = staged.kept;
+  is = continues_are_written (site_of conn) (number_of conn) e legs (is_looked_at conn.request) (conn.closing || conn.closes) staged.more conn.stage two unanswered
+      (subst (λ (b : Bool). StageIs (site_of conn) (number_of conn) e legs b (is_looked_at conn.request) (conn.closing || conn.closes) staged.more conn.stage) first staged.is) awaited;
+}
 
-at_stage : (conn : Conn) (e : Exchange) (legs : List Started) (stage : Stage) → conn.stage ≡ stage → Staged conn e legs
-    → StageIs (site_of conn) (number_of conn) e legs conn.continued (is_looked_at conn.request) (conn.closing || conn.closes) (undrained conn.run) stage
+at_stage : (conn : Conn) (e : Exchange) (legs : List Started) (stage : Stage) → conn.stage ≡ stage → (staged : Staged conn e legs)
+    → StageIs (site_of conn) (number_of conn) e legs conn.continued (is_looked_at conn.request) (conn.closing || conn.closes) staged.more stage
 at_stage conn e legs stage at staged =
-    subst (λ (s : Stage). StageIs (site_of conn) (number_of conn) e legs conn.continued (is_looked_at conn.request) (conn.closing || conn.closes) (undrained conn.run) s) at staged
+    subst (λ (s : Stage). StageIs (site_of conn) (number_of conn) e legs conn.continued (is_looked_at conn.request) (conn.closing || conn.closes) staged.more s) at staged.is
 
 pub parts_staged : (conn : Conn) (e : Exchange) (legs : List Started) (leg : Leg) → 2 ≤ (site_of conn).limits.head → Staged conn e legs → conn.stage ≡ At.Running leg
     → Staged (record (wrote_of leg.text true conn) { stage = At.Running (record leg { text = [] }) }) (wrote (number_of conn) e leg.text) legs
 parts_staged conn e legs leg two staged at =
-    let stage : StageIs (site_of conn) (number_of conn) (wrote (number_of conn) e leg.text) legs conn.continued (is_looked_at conn.request) (conn.closing || conn.closes) (undrained conn.run) (At.Running (record leg { text = [] })) =
-    parts_are_written (site_of conn) (number_of conn) e legs conn.continued (is_looked_at conn.request) (conn.closing || conn.closes) (undrained conn.run) leg two (at_stage conn e legs (At.Running leg) at staged) in
+    let stage : StageIs (site_of conn) (number_of conn) (wrote (number_of conn) e leg.text) legs conn.continued (is_looked_at conn.request) (conn.closing || conn.closes) staged.more (At.Running (record leg { text = [] })) =
+    parts_are_written (site_of conn) (number_of conn) e legs conn.continued (is_looked_at conn.request) (conn.closing || conn.closes) staged.more leg two (at_stage conn e legs (At.Running leg) at staged) in
     go leg.text (wrote (number_of conn) e leg.text) stage
   where
     go : (text : List ℕ) (after : Exchange)
-        → StageIs (site_of conn) (number_of conn) after legs conn.continued (is_looked_at conn.request) (conn.closing || conn.closes) (undrained conn.run) (At.Running (record leg { text = [] }))
+        → StageIs (site_of conn) (number_of conn) after legs conn.continued (is_looked_at conn.request) (conn.closing || conn.closes) staged.more (At.Running (record leg { text = [] }))
         → Staged (record (wrote_of text true conn) { stage = At.Running (record leg { text = [] }) }) after legs
-    go [] after s = s
-    go (byte ∷ text) after s = s
+    go [] after s = record { more = staged.more; kept = staged.kept; is = s }
+    go (byte ∷ text) after s = record { more = staged.more; kept = staged.kept; is = s }
 
 pub rests_staged : (conn : Conn) (e : Exchange) (legs : List Started) (text : List ℕ) (closes : Bool) → 2 ≤ (site_of conn).limits.head → Staged conn e legs
     → conn.stage ≡ At.Finishing text closes → conn.closes ≡ false → Staged (stood closes (wrote_of text true conn)) (wrote (number_of conn) e text) legs
 rests_staged conn e legs text closes two staged at none =
-    let stage : StageIs (site_of conn) (number_of conn) (wrote (number_of conn) e text) legs conn.continued (is_looked_at conn.request) ((conn.closing || conn.closes) || closes) (undrained conn.run) At.Answered =
-    rests_are_written (site_of conn) (number_of conn) e legs conn.continued (is_looked_at conn.request) (conn.closing || conn.closes) (undrained conn.run) text closes two (at_stage conn e legs (At.Finishing text closes) at staged) in
+    let stage : StageIs (site_of conn) (number_of conn) (wrote (number_of conn) e text) legs conn.continued (is_looked_at conn.request) ((conn.closing || conn.closes) || closes) staged.more At.Answered =
+    rests_are_written (site_of conn) (number_of conn) e legs conn.continued (is_looked_at conn.request) (conn.closing || conn.closes) staged.more text closes two (at_stage conn e legs (At.Finishing text closes) at staged) in
     let same : ((conn.closing || conn.closes) || closes) ≡ (conn.closing || closes) = ap (λ (b : Bool). b || closes) (ap (λ (b : Bool). conn.closing || b) none ∙ or_none conn.closing) in
     go text (wrote (number_of conn) e text)
-    (subst (λ (b : Bool). StageIs (site_of conn) (number_of conn) (wrote (number_of conn) e text) legs conn.continued (is_looked_at conn.request) b (undrained conn.run) At.Answered) same stage)
+    (subst (λ (b : Bool). StageIs (site_of conn) (number_of conn) (wrote (number_of conn) e text) legs conn.continued (is_looked_at conn.request) b staged.more At.Answered) same stage)
   where
     go : (bytes : List ℕ) (after : Exchange)
-        → StageIs (site_of conn) (number_of conn) after legs conn.continued (is_looked_at conn.request) (conn.closing || closes) (undrained conn.run) At.Answered
+        → StageIs (site_of conn) (number_of conn) after legs conn.continued (is_looked_at conn.request) (conn.closing || closes) staged.more At.Answered
         → Staged (stood closes (wrote_of bytes true conn)) after legs
-    go [] after s = s
-    go (byte ∷ bytes) after s = s
+    go [] after s = record { more = staged.more; kept = staged.kept; is = s }
+    go (byte ∷ bytes) after s = record { more = staged.more; kept = staged.kept; is = s }
 
 pub starts_staged : (conn : Conn) (e : Exchange) (legs : List Started) (leg : Leg) (launch : Launch) (body : List ℕ) (whole : Bool) (v : View) → 2 ≤ (site_of conn).limits.head
     → Staged conn e legs → conn.stage ≡ At.Starting leg launch body whole → list_any (names_child v.number) e.items ≡ false → v.output ≡ []
     → Staged (record conn { run = Some v; stage = At.Running leg }) (pushed e (Out (Start v.number (number_of conn) e.number leg.hop launch))) (legs ++ leg_held leg v.number ∷ [])
-starts_staged conn e legs leg launch body whole v two staged at unnamed none =
-    subst (λ (more : List ℕ). StageIs (site_of conn) (number_of conn) (pushed e (Out (Start v.number (number_of conn) e.number leg.hop launch))) (legs ++ leg_held leg v.number ∷ []) conn.continued (is_looked_at conn.request) (conn.closing || conn.closes) more (At.Running leg)) (sym none)
-    (starts_are_given (site_of conn) (number_of conn) e legs conn.continued (is_looked_at conn.request) (conn.closing || conn.closes) (undrained conn.run) leg launch body whole v.number two
-    (at_stage conn e legs (At.Starting leg launch body whole) at staged) unnamed)
+starts_staged conn e legs leg launch body whole v two staged at unnamed none = record {
+  more = [];
+  kept = λ keeps. sym none;
+  is = starts_are_given (site_of conn) (number_of conn) e legs conn.continued (is_looked_at conn.request) (conn.closing || conn.closes) staged.more leg launch body whole v.number two
+      (at_stage conn e legs (At.Starting leg launch body whole) at staged) unnamed;
+}

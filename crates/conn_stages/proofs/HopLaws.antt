@@ -34,7 +34,6 @@ use Rattle.conn_front.specs.Front.{first_peer}
 use Rattle.conn_core.specs.declared.conn.Conn.{Conn}
 use Rattle.conn_core.specs.Kept.{number_of, site_of}
 use Rattle.conn_core.specs.Begins.{PlaceBy, ReadiesHop, Refuses, ScriptBy, Starts, asked_of, bare_by, silenced}
-use Rattle.conn_core.specs.Ready.{undrained}
 use Rattle.conn_stages.specs.Staged.{MayHop, Staged}
 use Rattle.conn_stages.proofs.StagedLaws.{fault_is, reads, staged_as}
 
@@ -64,11 +63,11 @@ launch_first site (p ∷ ps) peer request mapped launch is l = subst (λ (q : Pe
 
 module _ (old new : Conn) (e : Exchange) (legs : List Started) (stamp : Option ℕ) (may : MayHop old e legs stamp) where
   at_stage : (stage : Stage) → old.stage ≡ stage
-      → StageIs (site_of old) (number_of old) e legs old.continued (is_looked_at old.request) (old.closing || old.closes) (undrained old.run) stage
-  at_stage stage at = subst (λ (s : Stage). StageIs (site_of old) (number_of old) e legs old.continued (is_looked_at old.request) (old.closing || old.closes) (undrained old.run) s) at may.may.staged
+      → StageIs (site_of old) (number_of old) e legs old.continued (is_looked_at old.request) (old.closing || old.closes) may.may.staged.more stage
+  at_stage stage at = subst (λ (s : Stage). StageIs (site_of old) (number_of old) e legs old.continued (is_looked_at old.request) (old.closing || old.closes) may.may.staged.more s) at may.may.staged.is
 
-  faults : (text : List ℕ) → FaultsMove (site_of old) (number_of old) e legs old.continued (is_looked_at old.request) (old.closing || old.closes) (undrained old.run) text
-  faults text = faults_are_ready (site_of old) (number_of old) e legs old.continued (is_looked_at old.request) (old.closing || old.closes) (undrained old.run) text may.may.let_on may.may.unclosed
+  faults : (text : List ℕ) → FaultsMove (site_of old) (number_of old) e legs old.continued (is_looked_at old.request) (old.closing || old.closes) may.may.staged.more text
+  faults text = faults_are_ready (site_of old) (number_of old) e legs old.continued (is_looked_at old.request) (old.closing || old.closes) may.may.staged.more text may.may.let_on may.may.unclosed
 
   record Refused (cause : Cause) : Type 0 where
     pub text : List ℕ
@@ -97,8 +96,8 @@ module _ (old new : Conn) (e : Exchange) (legs : List Started) (stamp : Option �
     starts : (kind : ScriptKind) (mapped : Mapped) → is_websocket kind ≡ false → place_of (site_of old) request ≡ Ok mapped → kind_of (site_of old) mapped ≡ kind
         → Starts hop kind request mapped (silenced old) new → Staged new e legs
     starts kind mapped plain place kind_is s =
-        staged_as old new e legs (At.Starting s.leg s.launch request.body (nat_lt 0 hop || is_taken old.request)) s.is
-        (places_are_found (site_of old) (number_of old) e legs old.continued (is_looked_at old.request) (old.closing || old.closes) (undrained old.run) hop request mapped s.leg (asked_of kind (record request { body = [] })) s.launch
+        staged_as old new e legs may.may.staged (At.Starting s.leg s.launch request.body (nat_lt 0 hop || is_taken old.request)) s.is
+        (places_are_found (site_of old) (number_of old) e legs old.continued (is_looked_at old.request) (old.closing || old.closes) may.may.staged.more hop request mapped s.leg (asked_of kind (record request { body = [] })) s.launch
         request.body (nat_lt 0 hop || is_taken old.request) (at_stage (At.Unstarted hop request) at) may.may.let_on may.may.unclosed place (ap is_websocket kind_is ∙ plain) (record {
           hop_is = s.leg_is.hop_is;
           kind_is = s.leg_is.kind_is ∙ sym kind_is;
@@ -117,20 +116,20 @@ module _ (old new : Conn) (e : Exchange) (legs : List Started) (stamp : Option �
     found Nph mapped place kind_is s = starts Nph mapped refl place kind_is s
     found WebSocket mapped place kind_is s =
         let r : Refused s.0 = refuses s.0 some s.2 in
-        staged_as old new e legs (At.Finishing r.text (closes_early (site_of old) (number_of old) e)) r.is
+        staged_as old new e legs may.may.staged (At.Finishing r.text (closes_early (site_of old) (number_of old) e)) r.is
         ((faults r.text).no_handshake hop request mapped s.0 may.turn (at_stage (At.Unstarted hop request) at) place kind_is s.1 r.fault)
 
     placed : (answer : Result Mapped Cause) → place_of (site_of old) request ≡ answer → PlaceBy answer hop request stamp (silenced old) new → Staged new e legs
     placed (Ok mapped) place f = found f.kind mapped place f.kind_is f.by
     placed (Err cause) place refusal =
         let r : Refused cause = refuses cause some refusal in
-        staged_as old new e legs (At.Finishing r.text (closes_early (site_of old) (number_of old) e)) r.is
+        staged_as old new e legs may.may.staged (At.Finishing r.text (closes_early (site_of old) (number_of old) e)) r.is
         ((faults r.text).no_script hop request cause may.turn (at_stage (At.Unstarted hop request) at) place r.fault)
 
   by_stage : (stage : Stage) → old.stage ≡ stage → ReadiesHop stage stamp old new → Staged new e legs
   by_stage (At.Refused cause) at refusal =
       let r : Refused cause = refuses cause (ap is_some (at_stage (At.Refused cause) at).0.last.reached.reaches.start) refusal in
-      staged_as old new e legs (At.Finishing r.text (closes_early (site_of old) (number_of old) e)) r.is
+      staged_as old new e legs may.may.staged (At.Finishing r.text (closes_early (site_of old) (number_of old) e)) r.is
       ((faults r.text).refused cause may.turn (at_stage (At.Refused cause) at) r.fault)
   by_stage (At.Unstarted hop request) at p = placed hop request at p.answer p.place p.by
   by_stage (At.Running leg) at same = subst (λ (conn : Conn). Staged conn e legs) (sym same) may.may.staged

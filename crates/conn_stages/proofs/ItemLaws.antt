@@ -9,7 +9,7 @@ use Rattle.host_trace.specs.declared.items.Item.TheVariants.{Out}
 use Rattle.host_trace.specs.Kinds.{bytes_written, child_started}
 use Rattle.host_trace.specs.Told.{when}
 use Rattle.child_core.specs.Due.{acted, acting, feed_given, input_given, kill_given, release_given, is_ask_due, is_feed_due, is_input_due, is_kill_due, is_release_due, piece_of}
-use Rattle.child_core.specs.View.{View}
+use Rattle.child_core.specs.View.{View, drops_output}
 use Rattle.trace_model.specs.Exchange.{Exchange, pushed}
 use Rattle.trace_model.specs.Exchanges.{following, has_ended}
 use Rattle.trace_model.specs.Legs.{Leg as Started}
@@ -30,7 +30,7 @@ use Rattle.conn_core.specs.Moves.{losing}
 use Rattle.conn_core.specs.Ready.{undrained}
 use Rattle.conn_core.specs.Settles.{Follows, is_answered, is_over}
 use Rattle.conn_core.specs.Slot.{run_settled}
-use Rattle.conn_stages.specs.Staged.{Lost, Staged}
+use Rattle.conn_stages.specs.Staged.{Lost, Staged, drops_of}
 use Rattle.conn_stages.proofs.EndLaws.{is_at_answered, left_true, or_none}
 
 noted_same : (act : Act) (s : Stage) → noted_by (Out act) s ≡ s
@@ -107,18 +107,28 @@ acted_output : (may : Bool) (v : View) → (acted may v).output ≡ v.output
 unfolding acted
 acted_output may v = refl
 
+acted_drops : (may : Bool) (v : View) → drops_output (acted may v).kind (acted may v).outcome ≡ drops_output v.kind v.outcome
+unfolding acted
+acted_drops may v = refl
+
 pub others_staged : (conn : Conn) (e : Exchange) (legs : List Started) (act : Act) → 2 ≤ (site_of conn).limits.head → Staged conn e legs → is_calm legs conn.stage ≡ true
     → bytes_written (number_of conn) (Out act) ≡ [] → child_started (number_of conn) (Out act) ≡ [] → Staged conn (pushed e (Out act)) legs
-others_staged conn e legs act two staged calm unwritten starts =
-    stage_kept (site_of conn) (number_of conn) e legs conn.continued (is_looked_at conn.request) (conn.closing || conn.closes) (undrained conn.run) conn.stage act two calm unwritten starts staged
+others_staged conn e legs act two staged calm unwritten starts = record {
+  more = staged.more;
+  kept = staged.kept;
+  is = stage_kept (site_of conn) (number_of conn) e legs conn.continued (is_looked_at conn.request) (conn.closing || conn.closes) staged.more conn.stage act two calm unwritten starts staged.is;
+}
 
 pub serves_staged : (conn : Conn) (e : Exchange) (legs : List Started) (may : Bool) (v : View) → 2 ≤ (site_of conn).limits.head → Staged conn e legs
     → is_calm legs conn.stage ≡ true → conn.run ≡ Some v → Staged (record conn { run = Some (acted may v) }) (with_acts e (acting may v)) legs
 serves_staged conn e legs may v two staged calm run =
     let same : undrained conn.run ≡ (acted may v).output = ap undrained run ∙ sym (acted_output may v) in
-    subst (λ (more : List ℕ). StageIs (site_of conn) (number_of conn) (with_acts e (acting may v)) legs conn.continued (is_looked_at conn.request) (conn.closing || conn.closes) more conn.stage) same
-    (stages_kept (site_of conn) (number_of conn) e legs conn.continued (is_looked_at conn.request) (conn.closing || conn.closes) (undrained conn.run) conn.stage (acting may v) two calm
-    (quiet_acting (number_of conn) may v) staged)
+    record {
+      more = staged.more;
+      kept = λ keeps. staged.kept (ap drops_of run ∙ (sym (acted_drops may v) ∙ keeps)) ∙ same;
+      is = stages_kept (site_of conn) (number_of conn) e legs conn.continued (is_looked_at conn.request) (conn.closing || conn.closes) staged.more conn.stage (acting may v) two calm
+          (quiet_acting (number_of conn) may v) staged.is;
+    }
 
 -- ---- the next exchange
 
@@ -127,36 +137,38 @@ pub next_staged : (old new : Conn) (e : Exchange) (legs : List Started) → Stag
 next_staged old new e legs staged over ended f =
     let at : old.stage ≡ At.Answered = is_at_answered old.stage (left_true (is_answered old.stage) (run_settled old.run) over) in
     let read : StageIs (site_of old) (number_of old) (following (site_of old) (number_of old) e) [] false false (old.closing || old.closes) [] At.Reading =
-    next_is_read (site_of old) (number_of old) e legs old.continued (is_looked_at old.request) (old.closing || old.closes) (undrained old.run)
-    (subst (λ (s : Stage). StageIs (site_of old) (number_of old) e legs old.continued (is_looked_at old.request) (old.closing || old.closes) (undrained old.run) s) at staged) ended in
+    next_is_read (site_of old) (number_of old) e legs old.continued (is_looked_at old.request) (old.closing || old.closes) staged.more
+    (subst (λ (s : Stage). StageIs (site_of old) (number_of old) e legs old.continued (is_looked_at old.request) (old.closing || old.closes) staged.more s) at staged.is) ended in
     let next : Exchange = following (site_of old) (number_of old) e in
     let closing : (old.closing || old.closes) ≡ (new.closing || new.closes) =
     sym (or_none (old.closing || old.closes)) ∙ (ap (λ (b : Bool). b || false) (sym f.front.closing) ∙ ap (λ (b : Bool). new.closing || b) (sym f.front.closes)) in
-    let more : [] ≡ undrained new.run = sym (ap undrained f.run) in
-    subst (λ (t : Site). StageIs t (number_of new) next [] new.continued (is_looked_at new.request) (new.closing || new.closes) (undrained new.run) new.stage) (sym f.site)
-    (subst (λ (d : ℕ). StageIs (site_of old) d next [] new.continued (is_looked_at new.request) (new.closing || new.closes) (undrained new.run) new.stage) (sym (ap (λ (m : Marks). m.c) f.marks))
-    (subst (λ (b : Bool). StageIs (site_of old) (number_of old) next [] b (is_looked_at new.request) (new.closing || new.closes) (undrained new.run) new.stage) (sym f.front.continued)
-    (subst (λ (b : Bool). StageIs (site_of old) (number_of old) next [] false b (new.closing || new.closes) (undrained new.run) new.stage) (sym f.front.looked)
-    (subst (λ (b : Bool). StageIs (site_of old) (number_of old) next [] false false b (undrained new.run) new.stage) closing
-    (subst (λ (l : List ℕ). StageIs (site_of old) (number_of old) next [] false false (old.closing || old.closes) l new.stage) more
-    (subst (λ (s : Stage). StageIs (site_of old) (number_of old) next [] false false (old.closing || old.closes) [] s) (sym f.stage) read))))))
+    record {
+      more = [];
+      kept = λ keeps. sym (ap undrained f.run);
+      is = subst (λ (t : Site). StageIs t (number_of new) next [] new.continued (is_looked_at new.request) (new.closing || new.closes) [] new.stage) (sym f.site)
+          (subst (λ (d : ℕ). StageIs (site_of old) d next [] new.continued (is_looked_at new.request) (new.closing || new.closes) [] new.stage) (sym (ap (λ (m : Marks). m.c) f.marks))
+          (subst (λ (b : Bool). StageIs (site_of old) (number_of old) next [] b (is_looked_at new.request) (new.closing || new.closes) [] new.stage) (sym f.front.continued)
+          (subst (λ (b : Bool). StageIs (site_of old) (number_of old) next [] false b (new.closing || new.closes) [] new.stage) (sym f.front.looked)
+          (subst (λ (b : Bool). StageIs (site_of old) (number_of old) next [] false false b [] new.stage) closing
+          (subst (λ (s : Stage). StageIs (site_of old) (number_of old) next [] false false (old.closing || old.closes) [] s) (sym f.stage) read)))));
+    }
 
 -- ---- want of memory
 
 pub losses_staged : (conn : Conn) (e : Exchange) (legs : List Started) → Staged conn e legs
     → (is_answered conn.stage ≡ false → stands_whole (site_of conn) (number_of conn) e ≡ false) → Lost (losing conn) e legs
-losses_staged conn e legs staged unwhole = go conn.stage unwhole staged
+losses_staged conn e legs staged unwhole = go conn.stage unwhole staged.is
   where
     go : (s : Stage) → (is_answered s ≡ false → stands_whole (site_of conn) (number_of conn) e ≡ false)
-        → StageIs (site_of conn) (number_of conn) e legs conn.continued (is_looked_at conn.request) (conn.closing || conn.closes) (undrained conn.run) s
+        → StageIs (site_of conn) (number_of conn) e legs conn.continued (is_looked_at conn.request) (conn.closing || conn.closes) staged.more s
         → LostIs (site_of conn) (number_of conn) e legs conn.continued (conn.closing || conn.closes) s
     go At.Answered u s = s
-    go At.Reading u s = losses_are_known (site_of conn) (number_of conn) e legs conn.continued (is_looked_at conn.request) (conn.closing || conn.closes) (undrained conn.run) At.Reading s (u refl)
-    go (At.Rejected cause bare) u s = losses_are_known (site_of conn) (number_of conn) e legs conn.continued (is_looked_at conn.request) (conn.closing || conn.closes) (undrained conn.run) (At.Rejected cause bare) s (u refl)
-    go (At.Interrupted cause) u s = losses_are_known (site_of conn) (number_of conn) e legs conn.continued (is_looked_at conn.request) (conn.closing || conn.closes) (undrained conn.run) (At.Interrupted cause) s (u refl)
-    go (At.Refused cause) u s = losses_are_known (site_of conn) (number_of conn) e legs conn.continued (is_looked_at conn.request) (conn.closing || conn.closes) (undrained conn.run) (At.Refused cause) s (u refl)
-    go (At.Unstarted hop request) u s = losses_are_known (site_of conn) (number_of conn) e legs conn.continued (is_looked_at conn.request) (conn.closing || conn.closes) (undrained conn.run) (At.Unstarted hop request) s (u refl)
-    go (At.Starting leg launch body whole) u s = losses_are_known (site_of conn) (number_of conn) e legs conn.continued (is_looked_at conn.request) (conn.closing || conn.closes) (undrained conn.run) (At.Starting leg launch body whole) s (u refl)
-    go (At.Running leg) u s = losses_are_known (site_of conn) (number_of conn) e legs conn.continued (is_looked_at conn.request) (conn.closing || conn.closes) (undrained conn.run) (At.Running leg) s (u refl)
-    go (At.Finishing text closes) u s = losses_are_known (site_of conn) (number_of conn) e legs conn.continued (is_looked_at conn.request) (conn.closing || conn.closes) (undrained conn.run) (At.Finishing text closes) s (u refl)
-    go At.Silent u s = losses_are_known (site_of conn) (number_of conn) e legs conn.continued (is_looked_at conn.request) (conn.closing || conn.closes) (undrained conn.run) At.Silent s (u refl)
+    go At.Reading u s = losses_are_known (site_of conn) (number_of conn) e legs conn.continued (is_looked_at conn.request) (conn.closing || conn.closes) staged.more At.Reading s (u refl)
+    go (At.Rejected cause bare) u s = losses_are_known (site_of conn) (number_of conn) e legs conn.continued (is_looked_at conn.request) (conn.closing || conn.closes) staged.more (At.Rejected cause bare) s (u refl)
+    go (At.Interrupted cause) u s = losses_are_known (site_of conn) (number_of conn) e legs conn.continued (is_looked_at conn.request) (conn.closing || conn.closes) staged.more (At.Interrupted cause) s (u refl)
+    go (At.Refused cause) u s = losses_are_known (site_of conn) (number_of conn) e legs conn.continued (is_looked_at conn.request) (conn.closing || conn.closes) staged.more (At.Refused cause) s (u refl)
+    go (At.Unstarted hop request) u s = losses_are_known (site_of conn) (number_of conn) e legs conn.continued (is_looked_at conn.request) (conn.closing || conn.closes) staged.more (At.Unstarted hop request) s (u refl)
+    go (At.Starting leg launch body whole) u s = losses_are_known (site_of conn) (number_of conn) e legs conn.continued (is_looked_at conn.request) (conn.closing || conn.closes) staged.more (At.Starting leg launch body whole) s (u refl)
+    go (At.Running leg) u s = losses_are_known (site_of conn) (number_of conn) e legs conn.continued (is_looked_at conn.request) (conn.closing || conn.closes) staged.more (At.Running leg) s (u refl)
+    go (At.Finishing text closes) u s = losses_are_known (site_of conn) (number_of conn) e legs conn.continued (is_looked_at conn.request) (conn.closing || conn.closes) staged.more (At.Finishing text closes) s (u refl)
+    go At.Silent u s = losses_are_known (site_of conn) (number_of conn) e legs conn.continued (is_looked_at conn.request) (conn.closing || conn.closes) staged.more At.Silent s (u refl)

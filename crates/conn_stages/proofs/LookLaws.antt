@@ -19,7 +19,7 @@ use Rattle.conn_front.specs.Front.{IsHeard}
 use Rattle.conn_front.proofs.FrontLaws.{unready_none}
 use Rattle.conn_core.specs.declared.conn.Conn.{Conn}
 use Rattle.conn_core.specs.Kept.{StandsFor, is_reading, number_of, site_of}
-use Rattle.conn_core.specs.Ready.{Looked, LooksTo, undrained}
+use Rattle.conn_core.specs.Ready.{Looked, LooksTo}
 use Rattle.conn_stages.specs.Staged.{Staged}
 
 is_at_reading : (s : Stage) → is_reading s ≡ true → s ≡ At.Reading
@@ -35,26 +35,38 @@ is_at_reading At.Answered e = absurd (false≢true e)
 is_at_reading At.Silent e = absurd (false≢true e)
 
 module _ (old new : Conn) (e : Exchange) (legs : List Started) (front : StandsFor old e) (staged : Staged old e legs) (found : old.lost ≡ false) (unclosed : e.closed ≡ false) where
-  finds : LooksFind (site_of old) (number_of old) e legs old.continued (old.closing || old.closes) (undrained old.run) → (seen : Found) → LooksTo seen old new → old.stage ≡ At.Reading
+  finds : LooksFind (site_of old) (number_of old) e legs old.continued (old.closing || old.closes) staged.more → (seen : Found) → LooksTo seen old new → old.stage ≡ At.Reading
       → limits_of new.request ≡ (site_of old).limits → Finds (request_bytes (number_of old) e) seen new.request → Staged new e legs
   finds move Seen.More to at limits f =
       let reads : reading (site_of old) (number_of old) e ≡ _ = sym (ap (λ (l : Limits). read_request l (request_bytes (number_of old) e)) limits) ∙ f.is in
-      let stage : StageIs (site_of old) (number_of old) e legs old.continued true (old.closing || old.closes) (undrained old.run) At.Reading =
+      let stage : StageIs (site_of old) (number_of old) e legs old.continued true (old.closing || old.closes) staged.more At.Reading =
       move.none (subst IsUnready (sym reads) f.unready) in
       subst (λ (conn : Conn). Staged conn e legs) (sym to)
-      (subst (λ (s : Stage). StageIs (site_of old) (number_of old) e legs old.continued (is_looked_at new.request) (old.closing || old.closes) (undrained old.run) s) (sym at)
-      (subst (λ (b : Bool). StageIs (site_of old) (number_of old) e legs old.continued b (old.closing || old.closes) (undrained old.run) At.Reading) (sym f.looked) stage))
+      (record {
+        more = staged.more;
+        kept = staged.kept;
+        is = subst (λ (s : Stage). StageIs (site_of old) (number_of old) e legs old.continued (is_looked_at new.request) (old.closing || old.closes) staged.more s) (sym at)
+            (subst (λ (b : Bool). StageIs (site_of old) (number_of old) e legs old.continued b (old.closing || old.closes) staged.more At.Reading) (sym f.looked) stage);
+      })
   finds move (Seen.Ready request) to at limits f =
       let starts : startable (reading (site_of old) (number_of old) e) ≡ Some request =
       sym (ap (λ (l : Limits). startable (read_request l (request_bytes (number_of old) e))) limits) ∙ f.is in
       subst (λ (conn : Conn). Staged conn e legs) (sym to)
-      (subst (λ (b : Bool). StageIs (site_of old) (number_of old) e legs old.continued b (old.closing || old.closes) (undrained old.run) (At.Unstarted 0 request)) (sym f.looked)
-      (move.ready request starts))
+      (record {
+        more = staged.more;
+        kept = staged.kept;
+        is = subst (λ (b : Bool). StageIs (site_of old) (number_of old) e legs old.continued b (old.closing || old.closes) staged.more (At.Unstarted 0 request)) (sym f.looked)
+            (move.ready request starts);
+      })
   finds move (Seen.Refused cause bare) to at limits f =
       let reads : reading (site_of old) (number_of old) e ≡ Bad cause bare = sym (ap (λ (l : Limits). read_request l (request_bytes (number_of old) e)) limits) ∙ f.is in
       subst (λ (conn : Conn). Staged conn e legs) (sym to)
-      (subst (λ (b : Bool). StageIs (site_of old) (number_of old) e legs old.continued b (old.closing || old.closes) (undrained old.run) (At.Rejected cause bare)) (sym f.looked)
-      (move.refused cause bare reads))
+      (record {
+        more = staged.more;
+        kept = staged.kept;
+        is = subst (λ (b : Bool). StageIs (site_of old) (number_of old) e legs old.continued b (old.closing || old.closes) staged.more (At.Rejected cause bare)) (sym f.looked)
+            (move.refused cause bare reads);
+      })
 
   by_look : Looked old new → Staged new e legs
   by_look (inl same) = subst (λ (conn : Conn). Staged conn e legs) (sym same) staged
@@ -62,8 +74,8 @@ module _ (old new : Conn) (e : Exchange) (legs : List Started) (front : StandsFo
       let at : old.stage ≡ At.Reading = is_at_reading old.stage l.reading in
       let h : IsHeard old.request (is_reading old.stage) (request_bytes (number_of old) e) = front.request found unclosed in
       finds
-      (looks_move (site_of old) (number_of old) e legs old.continued (is_looked_at old.request) (old.closing || old.closes) (undrained old.run)
-      (subst (λ (s : Stage). StageIs (site_of old) (number_of old) e legs old.continued (is_looked_at old.request) (old.closing || old.closes) (undrained old.run) s) at staged))
+      (looks_move (site_of old) (number_of old) e legs old.continued (is_looked_at old.request) (old.closing || old.closes) staged.more
+      (subst (λ (s : Stage). StageIs (site_of old) (number_of old) e legs old.continued (is_looked_at old.request) (old.closing || old.closes) staged.more s) at staged.is))
       l.found l.to at (l.limits ∙ front.limits)
       (l.finds (request_bytes (number_of old) e) (unready_none old.request (request_bytes (number_of old) e) h.taken (h.unready l.reading) h.knows) (h.unready l.reading))
 

@@ -17,7 +17,7 @@ use Rattle.trace_child.specs.Decided.{outcome_of}
 use Rattle.child_core.specs.declared.ending.Outcome.{Outcome}
 use Rattle.child_core.specs.declared.ending.Outcome.TheVariants.{Output, Failed, Gone, Stopped, Dropped}
 use Rattle.child_core.specs.Knows.{read}
-use Rattle.child_core.specs.View.{View}
+use Rattle.child_core.specs.View.{View, is_other}
 use Rattle.trace_model.specs.Closes.{is_nph, persists_by}
 use Rattle.trace_model.specs.Exchange.{Exchange, all_of, reading, request_bytes}
 use Rattle.trace_model.specs.Legs.{Leg as Started, run_of}
@@ -40,9 +40,9 @@ use Rattle.conn_core.specs.declared.conn.Conn.{Conn}
 use Rattle.conn_core.specs.Kept.{number_of, site_of}
 use Rattle.conn_core.specs.Begins.{ByOutcome, ReadiesAnswer, silenced}
 use Rattle.conn_core.specs.Ready.{Breaks, BreaksBy, Concludes, EndsAs, EndsWith, HearsPiece, HearsTick, ReadsAll, Tells, closes_with, drained_run, outcome_of_run, stage_of_hop, undrained}
-use Rattle.conn_stages.specs.Staged.{MayAnswer, MayReady, Staged}
+use Rattle.conn_stages.specs.Staged.{MayAnswer, MayReady, Staged, drops_of}
 use Rattle.host_base.specs.declared.cause.Cause.TheVariants.{RedirectLoop}
-use Rattle.host_trace.specs.Decider.{Outcome as Read, unanswered}
+use Rattle.host_trace.specs.Decider.{Outcome as Read, is_websocket, unanswered}
 use Rattle.exchange_reply.specs.declared.reply.LegReply.{LegReply}
 use Rattle.exchange_reply.specs.Reply.{closes_of}
 use Rattle.exchange_request.specs.Knows.{bare_of, is_looked_at}
@@ -87,8 +87,17 @@ module _ (old : Conn) (e : Exchange) (legs : List Started) (stamp : Option ℕ) 
       (subst (λ (d : Bool). SpellsFault cause bare' d stamp text) c (subst (λ (d : Bool). SpellsFault cause d closes stamp text) b f))
 
 -- the stage was taken out, and this put in its place
-pub staged_as : (old new : Conn) (e : Exchange) (legs : List Started) (stage : Stage) → new ≡ record old { stage = stage } → Staged (record old { stage = stage }) e legs → Staged new e legs
-staged_as old new e legs stage is s = subst (λ (conn : Conn). Staged conn e legs) (sym is) s
+pub staged_as : (old new : Conn) (e : Exchange) (legs : List Started) (staged : Staged old e legs) (stage : Stage) → new ≡ record old { stage = stage }
+    → StageIs (site_of old) (number_of old) e legs old.continued (is_looked_at old.request) (old.closing || old.closes) staged.more stage → Staged new e legs
+staged_as old new e legs staged stage is s = subst (λ (conn : Conn). Staged conn e legs) (sym is) (record { more = staged.more; kept = staged.kept; is = s })
+
+-- a run that goes on, or whose output ended, keeps its output
+pub keeps_output : (site : Site) (c : ℕ) (e : Exchange) (next : ℕ) (legs : List Started) (run : Option View) → KnowsChildren site c e false next legs run
+    → is_other (outcome_of_run run) ≡ false → drops_of run ≡ false
+keeps_output site c e next legs None k goes = refl
+keeps_output site c e next legs (Some v) k goes =
+    let plain : is_websocket v.kind ≡ false = ap (λ (w : View). is_websocket w.kind) k.runs.held_as ∙ k.runs.known.plain in
+    ap (λ (b : Bool). b || is_other v.outcome) plain ∙ goes
 
 -- ---- a reply, by the leg alone
 
@@ -144,8 +153,8 @@ module _ (old new : Conn) (e : Exchange) (legs : List Started) (stamp : Option �
       outcome_told (site_of old) (number_of old) e may.may.next legs old.run may.may.children started last ∙ ap (λ (p : Option Outcome). option_map read p) is
 
   module _ (leg : Leg) (at : old.stage ≡ At.Running leg) where
-    running : StageIs (site_of old) (number_of old) e legs old.continued (is_looked_at old.request) (old.closing || old.closes) (undrained old.run) (At.Running leg)
-    running = subst (λ (s : Stage). StageIs (site_of old) (number_of old) e legs old.continued (is_looked_at old.request) (old.closing || old.closes) (undrained old.run) s) at may.may.staged
+    running : StageIs (site_of old) (number_of old) e legs old.continued (is_looked_at old.request) (old.closing || old.closes) may.may.staged.more (At.Running leg)
+    running = subst (λ (s : Stage). StageIs (site_of old) (number_of old) e legs old.continued (is_looked_at old.request) (old.closing || old.closes) may.may.staged.more s) at may.may.staged.is
 
     closes_to : (closes : Bool) → ((bytes : List ℕ) → ReadsAll (silenced old) bytes → closes ≡ closes_with (silenced old) leg.kind bytes)
         → closes ≡ closes_of_kind (site_of old) (number_of old) e leg.kind
@@ -154,41 +163,43 @@ module _ (old new : Conn) (e : Exchange) (legs : List Started) (stamp : Option �
 
     told : outcome_of_run old.run ≡ None → Tells leg stamp (silenced old) new → Staged new e legs
     told goes t =
+        let keeps : may.may.staged.more ≡ (undrained old.run) =
+        may.may.staged.kept (keeps_output (site_of old) (number_of old) e may.may.next legs old.run may.may.children (ap is_other goes)) in
+        let now : StageIs (site_of old) (number_of old) e legs old.continued (is_looked_at old.request) (old.closing || old.closes) (undrained old.run) (At.Running leg) =
+        subst (λ (more : List ℕ). StageIs (site_of old) (number_of old) e legs old.continued (is_looked_at old.request) (old.closing || old.closes) more (At.Running leg)) keeps running in
         let stage : StageIs (site_of old) (number_of old) e legs old.continued (is_looked_at old.request) (old.closing || old.closes) [] (At.Running (record leg { reply = t.reply; text = t.text; ticked = false })) =
         tell_stage (site_of old) (number_of old) e legs old.continued (is_looked_at old.request) (old.closing || old.closes) (undrained old.run) leg t.closes stamp
         (closes_to t.closes t.closes_is) may.may.stamp_is t.text t.reply
-        (tells_are_handed (site_of old) (number_of old) e legs old.continued (is_looked_at old.request) (old.closing || old.closes) (undrained old.run) leg t.text t.reply running (may.written leg at) (comes None goes) may.short)
-        t.piece t.tick (may.apart leg at) in
-        subst (λ (conn : Conn). Staged conn e legs) (sym t.is)
-        (subst (λ (more : List ℕ). StageIs (site_of old) (number_of old) e legs old.continued (is_looked_at old.request) (old.closing || old.closes) more (At.Running (record leg { reply = t.reply; text = t.text; ticked = false })))
-        (sym (undrained_none old.run)) stage)
+        (tells_are_handed (site_of old) (number_of old) e legs old.continued (is_looked_at old.request) (old.closing || old.closes) (undrained old.run) leg t.text t.reply now (may.written leg at) (comes None goes) (may.short leg at goes))
+        t.piece t.tick (may.apart leg at goes) in
+        subst (λ (conn : Conn). Staged conn e legs) (sym t.is) (record { more = []; kept = λ keeps_it. sym (undrained_none old.run); is = stage })
 
     concluded : outcome_of_run old.run ≡ Some Output → Concludes leg stamp (silenced old) new → Staged new e legs
     concluded ended con =
         let closes : con.closes_now ≡ closes_of_kind (site_of old) (number_of old) e leg.kind = closes_to con.closes_now con.closes_is in
-        let move : EndsMove (site_of old) (number_of old) e legs old.continued (is_looked_at old.request) (old.closing || old.closes) (undrained old.run) leg =
-        ends_are_ready (site_of old) (number_of old) e legs old.continued (is_looked_at old.request) (old.closing || old.closes) (undrained old.run) leg running (may.written leg at) (comes (Some Output) ended) in
+        let move : EndsMove (site_of old) (number_of old) e legs old.continued (is_looked_at old.request) (old.closing || old.closes) may.may.staged.more leg =
+        ends_are_ready (site_of old) (number_of old) e legs old.continued (is_looked_at old.request) (old.closing || old.closes) may.may.staged.more leg running (may.written leg at) (comes (Some Output) ended) in
         go con.closes_now closes move con.last con.ends con.with
       where
         go : (closes_now : Bool) → closes_now ≡ closes_of_kind (site_of old) (number_of old) e leg.kind
-            → EndsMove (site_of old) (number_of old) e legs old.continued (is_looked_at old.request) (old.closing || old.closes) (undrained old.run) leg
+            → EndsMove (site_of old) (number_of old) e legs old.continued (is_looked_at old.request) (old.closing || old.closes) may.may.staged.more leg
             → (last : Last) → EndsAs leg.reply closes_now stamp last → EndsWith leg closes_now stamp (silenced old) new last → Staged new e legs
         go closes_now same move (Ended.Written text) ends with_it =
-            staged_as old new e legs (At.Finishing text with_it.0) with_it.2
+            staged_as old new e legs may.may.staged (At.Finishing text with_it.0) with_it.2
             (move.written text with_it.0
-            (ends_to (site_of old) (number_of old) e legs old.continued (is_looked_at old.request) (old.closing || old.closes) (undrained old.run) leg closes_now stamp same may.may.stamp_is (Ended.Written text) ends)
+            (ends_to (site_of old) (number_of old) e legs old.continued (is_looked_at old.request) (old.closing || old.closes) may.may.staged.more leg closes_now stamp same may.may.stamp_is (Ended.Written text) ends)
             (λ asked told ticked stood k. with_it.1 asked told ticked stood k ∙ ap (λ (d : Bool). closes_of stood d) same))
         go closes_now same move (Ended.Hop location) ends with_it =
-            staged_as old new e legs (stage_of_hop (site_of old) leg.hop leg.request location) with_it
-            (hop_stage (site_of old) (number_of old) e legs old.continued (is_looked_at old.request) (old.closing || old.closes) (undrained old.run) leg closes_now stamp same may.may.stamp_is location move ends)
+            staged_as old new e legs may.may.staged (stage_of_hop (site_of old) leg.hop leg.request location) with_it
+            (hop_stage (site_of old) (number_of old) e legs old.continued (is_looked_at old.request) (old.closing || old.closes) may.may.staged.more leg closes_now stamp same may.may.stamp_is location move ends)
         go closes_now same move (Ended.Bad cause) ends with_it =
-            staged_as old new e legs (At.Finishing with_it.text (closes_of_kind (site_of old) (number_of old) e leg.kind)) (with_it.is ∙ ap (λ (d : Bool). record old { stage = At.Finishing with_it.text d }) same)
+            staged_as old new e legs may.may.staged (At.Finishing with_it.text (closes_of_kind (site_of old) (number_of old) e leg.kind)) (with_it.is ∙ ap (λ (d : Bool). record old { stage = At.Finishing with_it.text d }) same)
             (move.refused cause with_it.text
-            (ends_to (site_of old) (number_of old) e legs old.continued (is_looked_at old.request) (old.closing || old.closes) (undrained old.run) leg closes_now stamp same may.may.stamp_is (Ended.Bad cause) ends)
-            (fault_to (site_of old) (number_of old) e legs old.continued (is_looked_at old.request) (old.closing || old.closes) (undrained old.run) leg closes_now stamp same may.may.stamp_is cause (is_head_request (Some leg.request)) with_it.text with_it.spells))
+            (ends_to (site_of old) (number_of old) e legs old.continued (is_looked_at old.request) (old.closing || old.closes) may.may.staged.more leg closes_now stamp same may.may.stamp_is (Ended.Bad cause) ends)
+            (fault_to (site_of old) (number_of old) e legs old.continued (is_looked_at old.request) (old.closing || old.closes) may.may.staged.more leg closes_now stamp same may.may.stamp_is cause (is_head_request (Some leg.request)) with_it.text with_it.spells))
 
-    cuts : CutsMove (site_of old) (number_of old) e legs old.continued (is_looked_at old.request) (old.closing || old.closes) (undrained old.run) leg
-    cuts = cuts_are_ready (site_of old) (number_of old) e legs old.continued (is_looked_at old.request) (old.closing || old.closes) (undrained old.run) leg running (may.written leg at)
+    cuts : CutsMove (site_of old) (number_of old) e legs old.continued (is_looked_at old.request) (old.closing || old.closes) may.may.staged.more leg
+    cuts = cuts_are_ready (site_of old) (number_of old) e legs old.continued (is_looked_at old.request) (old.closing || old.closes) may.may.staged.more leg running (may.written leg at)
 
     broke : (cause : Cause) → outcome_of_run old.run ≡ Some (Failed cause) → Breaks leg cause stamp (silenced old) new → Staged new e legs
     broke cause failed_is b = go b.closes (closes_to b.closes b.closes_is) b.begun b.begun_is b.by
@@ -197,18 +208,19 @@ module _ (old new : Conn) (e : Exchange) (legs : List Started) (stamp : Option �
             → ((asked : Asked) (told : List ℕ) (ticked : Bool) (stood : Stood) → KnowsReply leg.reply asked told ticked stood → begun ≡ is_begun stood)
             → BreaksBy leg cause closes stamp (silenced old) new begun → Staged new e legs
         go closes same true begun_is by =
-            subst (λ (conn : Conn). Staged conn e legs) (sym by) (cuts.begun cause (comes (Some (Failed cause)) failed_is) begun_is)
+            subst (λ (conn : Conn). Staged conn e legs) (sym by)
+            (record { more = may.may.staged.more; kept = may.may.staged.kept; is = cuts.begun cause (comes (Some (Failed cause)) failed_is) begun_is })
         go closes same false begun_is by =
-            staged_as old new e legs (At.Finishing by.0 (closes_of_kind (site_of old) (number_of old) e leg.kind)) (by.1 ∙ ap (λ (d : Bool). record old { stage = At.Finishing by.0 d }) same)
+            staged_as old new e legs may.may.staged (At.Finishing by.0 (closes_of_kind (site_of old) (number_of old) e leg.kind)) (by.1 ∙ ap (λ (d : Bool). record old { stage = At.Finishing by.0 d }) same)
             (cuts.unbegun cause by.0 (comes (Some (Failed cause)) failed_is) begun_is
             (λ asked told ticked stood k.
-            fault_to (site_of old) (number_of old) e legs old.continued (is_looked_at old.request) (old.closing || old.closes) (undrained old.run) leg closes stamp same may.may.stamp_is cause asked.head_only by.0
+            fault_to (site_of old) (number_of old) e legs old.continued (is_looked_at old.request) (old.closing || old.closes) may.may.staged.more leg closes stamp same may.may.stamp_is cause asked.head_only by.0
             (by.2 asked told ticked stood k)))
 
     over : (o : Outcome) → read o ≡ unanswered → outcome_of_run old.run ≡ Some o → new ≡ silenced old → Staged new e legs
     over o waits is same =
         subst (λ (conn : Conn). Staged conn e legs) (sym same)
-        (cuts.silent (λ started last. comes (Some o) is started last ∙ ap (λ (r : Read). Some r) waits))
+        (record { more = may.may.staged.more; kept = may.may.staged.kept; is = cuts.silent (λ started last. comes (Some o) is started last ∙ ap (λ (r : Read). Some r) waits) })
 
     by_outcome : (o : Option Outcome) → outcome_of_run old.run ≡ o → ByOutcome o leg stamp (silenced old) new → Staged new e legs
     by_outcome None is t = told is t
@@ -218,28 +230,28 @@ module _ (old new : Conn) (e : Exchange) (legs : List Started) (stamp : Option �
     by_outcome (Some Stopped) is same = over Stopped refl is same
     by_outcome (Some Dropped) is same = over Dropped refl is same
 
-  at_stage : StageIs (site_of old) (number_of old) e legs old.continued (is_looked_at old.request) (old.closing || old.closes) (undrained old.run) old.stage
-  at_stage = may.may.staged
+  at_stage : StageIs (site_of old) (number_of old) e legs old.continued (is_looked_at old.request) (old.closing || old.closes) may.may.staged.more old.stage
+  at_stage = may.may.staged.is
 
   by_stage : (stage : Stage) → old.stage ≡ stage → ReadiesAnswer stage stamp old new → Staged new e legs
   by_stage (At.Rejected cause bare) at f =
-      staged_as old new e legs (At.Finishing f.text true) f.is
-      ((faults_are_ready (site_of old) (number_of old) e legs old.continued (is_looked_at old.request) (old.closing || old.closes) (undrained old.run) f.text may.may.let_on may.may.unclosed).rejected cause bare
-      (subst (λ (s : Stage). StageIs (site_of old) (number_of old) e legs old.continued (is_looked_at old.request) (old.closing || old.closes) (undrained old.run) s) at at_stage)
+      staged_as old new e legs may.may.staged (At.Finishing f.text true) f.is
+      ((faults_are_ready (site_of old) (number_of old) e legs old.continued (is_looked_at old.request) (old.closing || old.closes) may.may.staged.more f.text may.may.let_on may.may.unclosed).rejected cause bare
+      (subst (λ (s : Stage). StageIs (site_of old) (number_of old) e legs old.continued (is_looked_at old.request) (old.closing || old.closes) may.may.staged.more s) at at_stage)
       (fault_is old e legs stamp may.may cause bare true bare true f.text refl refl f.spells))
   by_stage (At.Interrupted cause) at f =
-      staged_as old new e legs (At.Finishing f.text true) f.is
-      ((faults_are_ready (site_of old) (number_of old) e legs old.continued (is_looked_at old.request) (old.closing || old.closes) (undrained old.run) f.text may.may.let_on may.may.unclosed).interrupted cause
-      (subst (λ (s : Stage). StageIs (site_of old) (number_of old) e legs old.continued (is_looked_at old.request) (old.closing || old.closes) (undrained old.run) s) at at_stage)
+      staged_as old new e legs may.may.staged (At.Finishing f.text true) f.is
+      ((faults_are_ready (site_of old) (number_of old) e legs old.continued (is_looked_at old.request) (old.closing || old.closes) may.may.staged.more f.text may.may.let_on may.may.unclosed).interrupted cause
+      (subst (λ (s : Stage). StageIs (site_of old) (number_of old) e legs old.continued (is_looked_at old.request) (old.closing || old.closes) may.may.staged.more s) at at_stage)
       (fault_is old e legs stamp may.may cause (bare_of old.request) true (is_bare (reading (site_of old) (number_of old) e)) true f.text (may.bare cause at) refl f.spells))
   by_stage (At.Running leg) at by = by_outcome leg at (outcome_of_run old.run) refl by
-  by_stage At.Reading at same = subst (λ (conn : Conn). Staged conn e legs) (sym same) at_stage
-  by_stage (At.Refused cause) at same = subst (λ (conn : Conn). Staged conn e legs) (sym same) at_stage
-  by_stage (At.Unstarted hop request) at same = subst (λ (conn : Conn). Staged conn e legs) (sym same) at_stage
-  by_stage (At.Starting leg launch body whole) at same = subst (λ (conn : Conn). Staged conn e legs) (sym same) at_stage
-  by_stage (At.Finishing text closes) at same = subst (λ (conn : Conn). Staged conn e legs) (sym same) at_stage
-  by_stage At.Answered at same = subst (λ (conn : Conn). Staged conn e legs) (sym same) at_stage
-  by_stage At.Silent at same = subst (λ (conn : Conn). Staged conn e legs) (sym same) at_stage
+  by_stage At.Reading at same = subst (λ (conn : Conn). Staged conn e legs) (sym same) may.may.staged
+  by_stage (At.Refused cause) at same = subst (λ (conn : Conn). Staged conn e legs) (sym same) may.may.staged
+  by_stage (At.Unstarted hop request) at same = subst (λ (conn : Conn). Staged conn e legs) (sym same) may.may.staged
+  by_stage (At.Starting leg launch body whole) at same = subst (λ (conn : Conn). Staged conn e legs) (sym same) may.may.staged
+  by_stage (At.Finishing text closes) at same = subst (λ (conn : Conn). Staged conn e legs) (sym same) may.may.staged
+  by_stage At.Answered at same = subst (λ (conn : Conn). Staged conn e legs) (sym same) may.may.staged
+  by_stage At.Silent at same = subst (λ (conn : Conn). Staged conn e legs) (sym same) may.may.staged
 
 pub answers_staged : (old new : Conn) (stamp : Option ℕ) (e : Exchange) (legs : List Started) → MayAnswer old e legs stamp → ReadiesAnswer old.stage stamp old new → Staged new e legs
 answers_staged old new stamp e legs may readied = by_stage old new e legs stamp may old.stage refl readied

@@ -21,7 +21,6 @@ use Rattle.exchange_stage.proofs.ReasonLaws.{reasons_are_staged}
 use Rattle.conn_laws.proofs.FormLaws.{marks_say}
 use Rattle.conn_core.specs.declared.conn.Conn.{Conn}
 use Rattle.conn_core.specs.Kept.{is_reading, marks_of, number_of, site_of}
-use Rattle.conn_core.specs.Ready.{undrained}
 use Rattle.conn_core.specs.Reasons.{is_done_with, or_cut, why_of}
 use Rattle.conn_stages.specs.Staged.{MayShut}
 use Rattle.conn_stages.proofs.EndLaws.{left_true}
@@ -58,7 +57,7 @@ whys_due conn e legs two may =
     let accepted : list_any is_accepted (all_of e) ≡ true =
     left_true (list_any is_accepted (all_of e)) (not (shut (all_of e) (number_of conn))) (sym says.live ∙ may.live) in
     let r : ReasonsAre (site_of conn) (number_of conn) e legs (conn.closing || conn.closes) conn.stage =
-    reasons_are_staged (site_of conn) (number_of conn) e legs conn.continued (is_looked_at conn.request) (conn.closing || conn.closes) (undrained conn.run) conn.stage two may.staged may.rests in
+    reasons_are_staged (site_of conn) (number_of conn) e legs conn.continued (is_looked_at conn.request) (conn.closing || conn.closes) may.staged.more conn.stage two may.staged.is may.rests in
     let ended : (client_ended (number_of conn) (all_of e) && reads conn.stage && not (is_begun (request_bytes (number_of conn) e))) ≡ is_done_with conn (request_bytes (number_of conn) e) =
     ap (λ (b : Bool). b && reads conn.stage && not (is_begun (request_bytes (number_of conn) e))) (sym says.ended)
     ∙ ap (λ (b : Bool). (marks_of conn).ended && b && not (is_begun (request_bytes (number_of conn) e))) (same_reading conn.stage) in

@@ -31,9 +31,9 @@ use Rattle.conn_core.specs.Kept.{StandsFor, marks_of, number_of, site_of}
 use Rattle.conn_core.specs.Moves.{losing}
 use Rattle.conn_core.specs.Ready.{Looked}
 use Rattle.conn_core.specs.Reasons.{hears_at, is_done_with, why_of}
-use Rattle.conn_core.specs.Settles.{Follows, is_answered, is_over, stood}
+use Rattle.conn_core.specs.Settles.{Follows, ending_of, is_answered, is_over, stood}
 use Rattle.conn_core.specs.Writes.{continued, wrote as wrote_of}
-use Rattle.conn_stages.specs.Staged.{Lost, MayAnswer, MayHop, MayAsk, MaySettle, MayShut, Staged, ending_of}
+use Rattle.conn_stages.specs.Staged.{Lost, MayAnswer, MayHop, MayAsk, MaySettle, MayShut, Staged}
 
 -- A look at what was heard ..
 abbrev pub LooksAreStaged : Type 0

@@ -1,5 +1,5 @@
 -- The stage that a connection holds, in the words of the model.
-use Rattle.std.specs.Prelude.{ℕ, ◌≡◌, Bool, true, false, ◌||◌, nat_lt, List, [], Option, is_some}
+use Rattle.std.specs.Prelude.{ℕ, ◌≡◌, Bool, true, false, ◌||◌, nat_lt, List, [], Option, Some, None, is_some}
 use Rattle.host_base.specs.declared.cause.Cause.{Cause}
 use Rattle.host_base.specs.declared.request.Request.{Request}
 use Rattle.host_trace.specs.Projections.{last_secs}
@@ -10,7 +10,8 @@ use Rattle.trace_model.specs.Shuts.{cut_cause}
 use Rattle.trace_model.specs.Exchange.{Exchange, all_of, reading, up_to}
 use Rattle.trace_model.specs.Legs.{Leg as Started, offered_at}
 use Rattle.trace_model.specs.Readings.{is_bare}
-use Rattle.exchange_request.specs.Knows.{bare_of, is_looked_at, is_taken}
+use Rattle.child_core.specs.View.{View, drops_output}
+use Rattle.exchange_request.specs.Knows.{bare_of, is_looked_at, is_read, is_taken}
 use Rattle.exchange_reply.specs.StepRules.{is_continued}
 use Rattle.exchange_stage.specs.declared.stage.Leg.{Leg}
 use Rattle.exchange_stage.specs.declared.stage.Stage.TheVariants.{Interrupted, Running, Unstarted}
@@ -19,18 +20,24 @@ use Rattle.exchange_stage.specs.Rules.{Rests}
 use Rattle.exchange_stage.specs.StageIs.{LostIs, StageIs}
 use Rattle.conn_marks.specs.View.{is_live}
 use Rattle.conn_marks.specs.Knows.{Knows as KnowsMarks}
-use Rattle.conn_front.specs.Moves.{Ending}
 use Rattle.conn_children.specs.Children.{KnowsChildren}
 use Rattle.conn_core.specs.declared.conn.Conn.{Conn}
 use Rattle.conn_core.specs.Kept.{StandsFor, marks_of, number_of, site_of}
-use Rattle.conn_core.specs.Ready.{undrained}
+use Rattle.conn_core.specs.Ready.{outcome_of_run, undrained}
 
--- its stage is that of this exchange, for which these legs were started
-abbrev pub Staged : Conn → Exchange → List Started → Type 0
-Staged conn e legs =
-    StageIs (site_of conn) (number_of conn) e legs conn.continued (is_looked_at conn.request) (conn.closing || conn.closes) (undrained conn.run) conn.stage
+-- another item than the end of its output decided the run, which keeps no output then
+abbrev pub drops_of : Option View → Bool
+drops_of None = false
+drops_of (Some v) = drops_output v.kind v.outcome
 
--- An answer, or a hop, may be made ready: memory was found, all that was heard was looked at, 100 Continue stands where
+-- Its stage is that of this exchange, for which these legs were started. `more` output was heard that the reply wasn't
+-- told of, and the run keeps it, unless it keeps none.
+pub record Staged (conn : Conn) (e : Exchange) (legs : List Started) : Type 0 where
+  pub more : List ℕ
+  pub kept : drops_of conn.run ≡ false → more ≡ undrained conn.run
+  pub is : StageIs (site_of conn) (number_of conn) e legs conn.continued (is_looked_at conn.request) (conn.closing || conn.closes) more conn.stage
+
+-- An answer, or a hop, may be made ready: memory was found, all that was heard for the request was looked at, 100 Continue stands where
 -- it was due, and no earlier answer closes the connection.
 pub record MayReady (conn : Conn) (e : Exchange) (legs : List Started) (stamp : Option ℕ) : Type 0 where
   pub front : StandsFor conn e
@@ -38,7 +45,7 @@ pub record MayReady (conn : Conn) (e : Exchange) (legs : List Started) (stamp : 
   pub next : ℕ
   pub children : KnowsChildren (site_of conn) (number_of conn) e false next legs conn.run
   pub found : conn.lost ≡ false
-  pub looked : is_looked_at conn.request ≡ true
+  pub looked : is_read conn.request ≡ true
   pub unclosed : e.closed ≡ false
   pub let_on : is_continued (site_of conn) (number_of conn) e ≡ true
   pub stamp_is : stamp ≡ last_secs (all_of e)
@@ -47,10 +54,10 @@ pub record MayReady (conn : Conn) (e : Exchange) (legs : List Started) (stamp : 
 -- out, and what came comes by itself
 pub record MayAnswer (conn : Conn) (e : Exchange) (legs : List Started) (stamp : Option ℕ) : Type 0 where
   pub may : MayReady conn e legs stamp
-  pub short : IsShort (site_of conn) (number_of conn) e legs
+  pub short : (leg : Leg) → conn.stage ≡ Running leg → outcome_of_run conn.run ≡ None → IsShort (site_of conn) (number_of conn) e legs
   pub bare : (cause : Cause) → conn.stage ≡ Interrupted cause → bare_of conn.request ≡ is_bare (reading (site_of conn) (number_of conn) e)
   pub written : (leg : Leg) → conn.stage ≡ Running leg → leg.text ≡ []
-  pub apart : (leg : Leg) → conn.stage ≡ Running leg → leg.ticked ≡ true → undrained conn.run ≡ []
+  pub apart : (leg : Leg) → conn.stage ≡ Running leg → outcome_of_run conn.run ≡ None → leg.ticked ≡ true → undrained conn.run ≡ []
 
 -- .. of a hop: it may begin, and what came of the body is at hand
 pub record MayHop (conn : Conn) (e : Exchange) (legs : List Started) (stamp : Option ℕ) : Type 0 where
@@ -61,10 +68,6 @@ pub record MayHop (conn : Conn) (e : Exchange) (legs : List Started) (stamp : Op
 
 -- ---- the end of an exchange
 
--- what is held of it
-abbrev pub ending_of : Conn → Ending
-ending_of conn = record { closes = conn.closes; idled = conn.idled; lost = conn.lost; taken = is_taken conn.request }
-
 -- The exchange may be taken for ended: no request went without a beginning for the idle time, and all that was heard was
 -- looked at, or the request was read to its end.
 pub record MaySettle (conn : Conn) (e : Exchange) (legs : List Started) : Type 0 where
@@ -74,7 +77,7 @@ pub record MaySettle (conn : Conn) (e : Exchange) (legs : List Started) : Type 0
   pub next : ℕ
   pub children : KnowsChildren (site_of conn) (number_of conn) e early next legs conn.run
   pub calm : conn.idled ≡ false
-  pub looked : (is_looked_at conn.request || is_taken conn.request) ≡ true
+  pub looked : is_read conn.request ≡ true
 
 -- ---- memory was wanting
 
@@ -89,7 +92,7 @@ Lost conn e legs = LostIs (site_of conn) (number_of conn) e legs conn.continued 
 pub record MayShut (conn : Conn) (e : Exchange) (legs : List Started) : Type 0 where
   pub front : StandsFor conn e
   pub staged : Staged conn e legs
-  pub rests : Rests (site_of conn) (number_of conn) e legs (is_looked_at conn.request) (undrained conn.run) conn.stage
+  pub rests : Rests (site_of conn) (number_of conn) e legs (is_looked_at conn.request) staged.more conn.stage
   pub marks : KnowsMarks (marks_of conn) (all_of e)
   pub live : is_live (marks_of conn) ≡ true
   pub found : conn.lost ≡ false
@@ -101,9 +104,9 @@ pub record MayShut (conn : Conn) (e : Exchange) (legs : List Started) : Type 0 w
 pub record MayAsk (conn : Conn) (e : Exchange) (legs : List Started) : Type 0 where
   pub front : StandsFor conn e
   pub staged : Staged conn e legs
-  pub rests : Rests (site_of conn) (number_of conn) e legs (is_looked_at conn.request) (undrained conn.run) conn.stage
+  pub rests : Rests (site_of conn) (number_of conn) e legs (is_looked_at conn.request) staged.more conn.stage
   pub marks : KnowsMarks (marks_of conn) (all_of e)
   pub next : ℕ
   pub children : KnowsChildren (site_of conn) (number_of conn) e false next legs conn.run
   pub found : conn.lost ≡ false
-  pub looked : (is_looked_at conn.request || is_taken conn.request) ≡ true
+  pub looked : is_read conn.request ≡ true

@@ -1,5 +1,6 @@
 // Laws of the stage that a connection holds. Each function is one law, and does nothing.
 ghost use Rattle.conn_stages.specs.Laws.{AnswersAreStaged, AsksAreDue, ContinuesAreStaged, EndsAreNoticed, EndsAreTaken, HopsAreStaged, LooksAreStaged, LossesAreStaged, NextAreStaged, OthersAreStaged, PartsAreStaged, RestsAreStaged, ServesAreStaged, StartsAreStaged, WhysAreDue};
+ghost use Rattle.conn_stages.specs.HeardStages.{EventsAreStaged, EventsKeep, EventsLose, EventsStayLost, LooksAreHeard, OffersAreKnown, StartsRest};
 
 /// What is made ready of an answer leads to the stage that the model says.
 pub fn answers_are_staged()
@@ -74,4 +75,39 @@ pub fn whys_are_due()
 /// Its client is to be heard exactly where the connection says so.
 pub fn asks_are_due()
     ensures { AsksAreDue }
+{}
+
+/// An event that is heard between two steps leads to the stage that the model says.
+pub fn events_are_staged()
+    ensures { EventsAreStaged }
+{}
+
+/// .. or to what is known where memory was wanting.
+pub fn events_lose()
+    ensures { EventsLose }
+{}
+
+/// .. and where memory had been wanting it stays so.
+pub fn events_stay_lost()
+    ensures { EventsStayLost }
+{}
+
+/// What came of the body is what there is for the input of a script that waits for its turn.
+pub fn offers_are_known()
+    ensures { OffersAreKnown }
+{}
+
+/// A look at what was heard hands out what came of the body.
+pub fn looks_are_heard()
+    ensures { LooksAreHeard }
+{}
+
+/// What no event changes.
+pub fn events_keep()
+    ensures { EventsKeep }
+{}
+
+/// A connection before it heard anything is at rest.
+pub fn starts_rest()
+    ensures { StartsRest }
 {}

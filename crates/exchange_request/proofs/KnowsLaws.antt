@@ -1,5 +1,5 @@
 -- What the calls make of what is known of an exchange's request.
-use Rattle.std.proofs.Common.{◌≡◌, ℕ, ◌+◌, ◌≤◌, Bool, true, false, not, List, [], ◌++◌, length, drop, Option, Some, None, is_some, refl, sym, ap, ◌∙◌, subst, arith, append-nil, inl}
+use Rattle.std.proofs.Common.{◌≡◌, ℕ, ◌+◌, ◌≤◌, Bool, true, false, not, ◌||◌, List, [], ◌++◌, length, drop, Option, Some, None, is_some, refl, sym, ap, ◌∙◌, subst, arith, append-nil, inl}
 use Rattle.std.proofs.lemmas.List.{length-drop, length-append}
 use Rattle.host_base.specs.declared.cause.Cause.{Cause}
 use Rattle.host_base.specs.declared.limits.Limits.{Limits}
@@ -14,7 +14,7 @@ use Rattle.request_reader.proofs.RequestLaws.{rests_stay, unbegun_more}
 use Rattle.trace_model.specs.Readings.{body_of, headed, if_length, is_due, is_whole, startable}
 use Rattle.exchange_request.specs.Manner.{manner_of}
 use Rattle.exchange_request.specs.Due.{due_of}
-use Rattle.exchange_request.specs.Knows.{Knows, StandsBy, IsUnready, IsAwaited, FindsMore, FindsReady, FindsRefused, HandsOut, is_ready, is_taken, is_looked_at, reading_of}
+use Rattle.exchange_request.specs.Knows.{Knows, StandsBy, IsUnready, IsAwaited, FindsMore, FindsReady, FindsRefused, HandsOut, is_ready, is_taken, is_looked_at, is_read, reading_of}
 use Rattle.exchange_request.specs.declared.found.Manner.{Manner}
 use Rattle.exchange_request.specs.declared.incoming.Incoming.{Incoming}
 use Rattle.exchange_request.proofs.ReadyLaws.{AnswersWhole, AnswersMore, AnswersEarly, whole_due, headed_begun, startable_more}
@@ -69,16 +69,14 @@ heard_by i (Some manner) true bytes taken open_yet h = absurd (cc)
 
 -- ---- what the calls tell
 
-pub knows_whole : (i : Incoming) (bytes : List ℕ) (taken : ℕ) → Knows i bytes taken → is_looked_at i ≡ true → is_taken i ≡ is_whole (reading_of i bytes)
-knows_whole i bytes taken k looked = by_stage i.manner i.whole refl refl k.stands
-  where
-    unfresh : i.fresh ≡ false
-    unfresh = not_true i.fresh looked
-      where
-        not_true : (b : Bool) → not b ≡ true → b ≡ false
-        not_true true e = sym e
-        not_true false e = refl
+-- all that was heard was looked at, where the request was not read to its end
+looked_by : (fresh whole : Bool) → whole ≡ false → (not fresh || whole) ≡ true → fresh ≡ false
+looked_by true whole w e = sym e ∙ w
+looked_by false whole w e = refl
 
+pub knows_whole : (i : Incoming) (bytes : List ℕ) (taken : ℕ) → Knows i bytes taken → is_read i ≡ true → is_taken i ≡ is_whole (reading_of i bytes)
+knows_whole i bytes taken k read = by_stage i.manner i.whole refl refl k.stands
+  where
     no_start : (reading : Reading) → startable reading ≡ None → false ≡ is_whole reading
     no_start (Whole request used due) e = absurd (cc)
     no_start (More request due) e = refl
@@ -86,24 +84,17 @@ knows_whole i bytes taken k looked = by_stage i.manner i.whole refl refl k.stand
 
     by_stage : (manner : Option Manner) (whole : Bool) → i.manner ≡ manner → i.whole ≡ whole → StandsBy i manner whole bytes taken
         → i.whole ≡ is_whole (reading_of i bytes)
-    by_stage None false m w h = w ∙ no_start (reading_of i bytes) (h.looked unfresh)
+    by_stage None false m w h = w ∙ no_start (reading_of i bytes) (h.looked (looked_by i.fresh i.whole w read))
     by_stage None true m w h = absurd h
-    by_stage (Some manner) false m w h = w ∙ sym (h.looked unfresh)
+    by_stage (Some manner) false m w h = w ∙ sym (h.looked (looked_by i.fresh i.whole w read))
     by_stage (Some manner) true m w h = w ∙ sym (ap is_whole h.is)
 
-pub knows_due : (i : Incoming) (bytes : List ℕ) (taken : ℕ) → Knows i bytes taken → is_looked_at i ≡ true → i.due ≡ is_due (reading_of i bytes)
-knows_due i bytes taken k looked = by_stage i.manner i.whole refl refl k.stands
+pub knows_due : (i : Incoming) (bytes : List ℕ) (taken : ℕ) → Knows i bytes taken → is_read i ≡ true → i.due ≡ is_due (reading_of i bytes)
+knows_due i bytes taken k read = by_stage i.manner i.whole refl refl k.stands
   where
-    unfresh : i.fresh ≡ false
-    unfresh = not_true i.fresh looked
-      where
-        not_true : (b : Bool) → not b ≡ true → b ≡ false
-        not_true true e = sym e
-        not_true false e = refl
-
     by_stage : (manner : Option Manner) (whole : Bool) → i.manner ≡ manner → i.whole ≡ whole → StandsBy i manner whole bytes taken
         → i.due ≡ is_due (reading_of i bytes)
-    by_stage None false m w h = h.due unfresh
+    by_stage None false m w h = h.due (looked_by i.fresh i.whole w read)
     by_stage None true m w h = absurd h
     by_stage (Some manner) false m w h = h.due
     by_stage (Some manner) true m w h = sym (ap is_due h.is)

@@ -1,2 +1,3 @@
 pub mod ReadyLaws
 pub mod KnowsLaws
+pub mod BareLaws

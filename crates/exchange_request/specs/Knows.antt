@@ -1,5 +1,5 @@
 -- What is known of the request of an exchange, by the bytes heard for it and by how many bytes of its body were handed out.
-use Rattle.std.specs.Prelude.{ℕ, ◌+◌, ◌≡◌, ◌≤◌, Bool, true, false, not, List, length, drop, Option, Some, None, is_some, codes, bytes_eq}
+use Rattle.std.specs.Prelude.{ℕ, ◌+◌, ◌≡◌, ◌≤◌, Bool, true, false, not, ◌||◌, List, length, drop, Option, Some, None, is_some, codes, bytes_eq}
 use Rattle.host_base.specs.declared.limits.Limits.{Limits}
 use Rattle.host_base.specs.declared.request.Request.{Request}
 use Rattle.head_reader.specs.RequestHead.{read_head}
@@ -29,9 +29,19 @@ is_taken i = i.whole
 abbrev pub is_looked_at : Incoming → Bool
 is_looked_at i = not i.fresh
 
+-- .. or the request was read to its end: what came since is of a later one
+abbrev pub is_read : Incoming → Bool
+is_read i = is_looked_at i || is_taken i
+
 -- what the bytes are as a request
 abbrev pub reading_of : Incoming → List ℕ → Reading
 reading_of i bytes = read_request i.limits bytes
+
+-- no request that is served, whatever follows
+abbrev pub is_refused : Reading → Bool
+is_refused (Whole request used due) = false
+is_refused (More request due) = false
+is_refused (Bad cause bare) = true
 
 -- how many bytes are kept
 abbrev pub kept_of : Incoming → ℕ

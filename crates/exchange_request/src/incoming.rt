@@ -51,7 +51,7 @@ impl Incoming {
     ghost use Rattle.trace_model.specs.Readings.{headed, startable};
     ghost use Rattle.trace_model.specs.Readings.{is_due as is_due_of, is_whole as is_whole_of, is_bare as is_bare_of};
     ghost use Rattle.trace_model.specs.Closes.{persists_by};
-    ghost use Rattle.exchange_request.specs.Knows.{Knows, Finds, HandsOut, limits_of, is_ready, is_taken, kept_of, bare_of, is_looked_at, reading_of};
+    ghost use Rattle.exchange_request.specs.Knows.{Knows, Finds, HandsOut, limits_of, is_ready, is_taken, kept_of, bare_of, is_looked_at, is_read, is_refused, reading_of};
 
     /// Nothing was heard. It takes no memory.
     pub fn new(alloc: Global, limits: &Limits) -> Self
@@ -77,6 +77,8 @@ impl Incoming {
         ensures err { OnErr result (self.new ≡ self.old) }
         ensures limits { limits_of self.new ≡ limits_of self.old }
         ensures ready { is_ready self.new ≡ is_ready self.old }
+        ensures taken { is_taken self.new ≡ is_taken self.old }
+        ensures looked { OnOk result (is_looked_at self.new ≡ false) }
     {
         self.reader.feed(bytes)?;
         self.fresh = true;
@@ -163,7 +165,7 @@ impl Incoming {
     /// Whether the request is whole.
     pub fn is_whole(&self) -> bool
         ensures value { result ≡ is_taken self.now }
-        ensures whole { (bytes : List ℕ) (taken : ℕ) → Knows self.now bytes taken → is_looked_at self.now ≡ true
+        ensures whole { (bytes : List ℕ) (taken : ℕ) → Knows self.now bytes taken → is_read self.now ≡ true
             → result ≡ is_whole_of (reading_of self.now bytes) }
     {
         self.whole
@@ -171,7 +173,7 @@ impl Incoming {
 
     /// Whether 100 Continue is due (RFC 9110 10.1.1).
     pub fn is_due(&self) -> bool
-        ensures { (bytes : List ℕ) (taken : ℕ) → Knows self.now bytes taken → is_looked_at self.now ≡ true
+        ensures { (bytes : List ℕ) (taken : ℕ) → Knows self.now bytes taken → is_read self.now ≡ true
             → result ≡ is_due_of (reading_of self.now bytes) }
     {
         self.due
@@ -194,7 +196,7 @@ impl Incoming {
     /// What a reply depends on, once the request was found ready.
     pub fn manner(&self) -> Option<Manner>
         ensures ready { is_some result ≡ is_ready self.now }
-        ensures value { (bytes : List ℕ) (taken : ℕ) → Knows self.now bytes taken → is_looked_at self.now ≡ true
+        ensures value { (bytes : List ℕ) (taken : ℕ) → Knows self.now bytes taken → is_read self.now ≡ true
             → result ≡ option_map manner_of (startable (reading_of self.now bytes)) }
     {
         self.manner
@@ -203,7 +205,7 @@ impl Incoming {
     /// Whether an answer that begins now leaves the connection open, as far as the request says: it persists, and is
     /// whole.
     pub fn lets_persist(&self) -> bool
-        ensures { (bytes : List ℕ) (taken : ℕ) → Knows self.now bytes taken → is_looked_at self.now ≡ true
+        ensures { (bytes : List ℕ) (taken : ℕ) → Knows self.now bytes taken → is_read self.now ≡ true
             → result ≡ persists_by (headed (reading_of self.now bytes)) && is_whole_of (reading_of self.now bytes) }
     {
         match self.manner {
@@ -217,6 +219,8 @@ impl Incoming {
         ensures value { IfOk result (λ bare. bare ≡ bare_of self.now) }
         ensures memory { OnErr result (is_ready self.now ≡ false) }
         ensures ready { (bytes : List ℕ) (taken : ℕ) → Knows self.now bytes taken → is_looked_at self.now ≡ true → is_ready self.now ≡ true
+            → bare_of self.now ≡ is_bare_of (reading_of self.now bytes) }
+        ensures served { (bytes : List ℕ) (taken : ℕ) → Knows self.now bytes taken → is_refused (reading_of self.now bytes) ≡ false
             → bare_of self.now ≡ is_bare_of (reading_of self.now bytes) }
     {
         if let Some(manner) = self.manner {

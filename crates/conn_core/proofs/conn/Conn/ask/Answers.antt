@@ -1,7 +1,8 @@
-use Rattle.std.proofs.Common.{refl, sym, ap, ◌∙◌, ℕ}
+use Rattle.std.proofs.Common.{refl, sym, ap, ◌∙◌, ℕ, [], ◌∷◌}
 use Rattle.host_trace.specs.declared.items.Act.TheVariants.{WantClient}
 use Rattle.host_trace.specs.declared.items.Item.TheVariants.{Out}
-use Rattle.conn_marks.specs.View.{noted}
+use Rattle.conn_front.specs.Moves.{gives}
+use Rattle.conn_marks.specs.View.{View as Marks, noted}
 use Rattle.conn_core.proofs.GaveLaws.{gave_plain}
 use Rattle.conn_core.proofs.conn.Conn.ask.Goals as goal
 
@@ -15,4 +16,7 @@ returns-clause-gave g c n =
       front = refl;
       lost = λ l. l;
       reading = λ r. r;
-    }) (λ e known. tt)
+    }) (λ e known. tt) (record {
+      moves_are = ap (λ (k : ℕ). gives (WantClient k) ∷ []) c.c-number.ensures;
+      is = ap (λ (m : Marks). record c.args.self.now { marks = m }) c.ask.ensures;
+    })

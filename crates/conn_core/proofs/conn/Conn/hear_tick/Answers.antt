@@ -8,15 +8,15 @@ use Rattle.conn_core.proofs.HearLaws.{heard_tick_counted, heard_tick_idly, heard
 use Rattle.conn_core.proofs.conn.Conn.hear_tick.Goals as goal
 use Rattle.conn_core.proofs.conn.Conn.hear_tick.Goals.{else-is_settled-via-then-is_settled+else-tick, else-is_settled-via-else-is_settled}
 
-pub returns-then-tick : goal.returns-then-tick
-returns-then-tick c secs =
+pub returns-then-tick-clause-front : goal.returns-then-tick-clause-front
+returns-then-tick-clause-front c secs =
     heard_tick_last c.args.self.now secs c.tick.new.self (sym (c.if-is_settled.ensures ∙ ap (λ (conn : Conn). run_settled conn.run) c.note_tick.ensures))
     (c.tick.ensures.left ∙ ap (λ (conn : Conn). conn.idle_left - 1) c.note_tick.ensures)
     (sym (c.if-tick.ensures.met ∙ ap (λ (conn : Conn). conn.idle_left == 1) c.note_tick.ensures))
-    (subst (λ (conn : Conn). IdlesOut (record conn { idle_left = c.tick.new.self }) c.idle_out.new.self) c.note_tick.ensures c.idle_out.ensures)
+    (subst (λ (conn : Conn). IdlesOut (record conn { idle_left = c.tick.new.self }) c.idle_out.new.self) c.note_tick.ensures c.idle_out.ensures.front)
 
-pub returns-else-is_settled : goal.returns-else-is_settled
-returns-else-is_settled c secs =
+pub returns-else-is_settled-clause-front : goal.returns-else-is_settled-clause-front
+returns-else-is_settled-clause-front c secs =
     elim c.else-is_settled.branch [
       | else-is_settled-via-then-is_settled+else-tick w ↦
           subst (λ (conn : Conn). HeardOwn c.args.self.now (Tick secs) conn) (sym (w.self-is ∙ ap (λ (conn : Conn). record conn { idle_left = w.tick.new.self }) c.note_tick.ensures))

@@ -1,7 +1,7 @@
 use Rattle.std.proofs.Common.{Bool, subst}
 use Rattle.reply_stream.specs.declared.stream.Last.TheVariants as Ended
 use Rattle.conn_core.specs.Ready.{Faults}
-use Rattle.conn_core.proofs.ReadyLaws.{ends_as}
+use Rattle.conn_core.proofs.ReadyLaws.{ends_as, lacks_bad, lacks_hop}
 use Rattle.conn_core.proofs.conn.Conn.ready_last.Goals as goal
 
 pub returns-in-Ok-Written-clause-last : goal.returns-in-Ok-Written-clause-last
@@ -34,3 +34,18 @@ returns-in-Ok-Bad-clause-last c lost = record {
   with = subst (λ (bare : Bool). Faults c.in-Ok-Bad.cause bare c.closes_by-closes_now.result c.args.now c.args.self.now c.ready_fault.new.self) c.is_head.ensures
       (c.ready_fault.ensures.fault lost);
 }
+
+pub returns-in-Ok-Hop-clause-lacks : goal.returns-in-Ok-Hop-clause-lacks
+returns-in-Ok-Hop-clause-lacks c found lost =
+    lacks_hop c.args.leg.reply c.closes_by-closes_now.result c.args.now c.in-Ok-Hop.location
+    (ends_as c.args.leg.reply c.closes_by-closes_now.result c.args.now c.in-Ok-Hop.field-0 (Ended.Hop c.in-Ok-Hop.location) c.in-Ok-Hop.field-0-is
+    (λ asked told ticked stood k. c.in-Ok-Hop.ensures.last asked told ticked stood k))
+
+pub returns-in-Ok-Bad-clause-lacks : goal.returns-in-Ok-Bad-clause-lacks
+returns-in-Ok-Bad-clause-lacks c found lost =
+    lacks_bad c.args.leg.reply c.closes_by-closes_now.result c.args.now c.in-Ok-Bad.cause
+    (ends_as c.args.leg.reply c.closes_by-closes_now.result c.args.now c.in-Ok-Bad.field-0 (Ended.Bad c.in-Ok-Bad.cause) c.in-Ok-Bad.field-0-is
+    (λ asked told ticked stood k. c.in-Ok-Bad.ensures.last asked told ticked stood k))
+
+pub returns-clause-lacks : goal.returns-clause-lacks
+returns-clause-lacks c found lost = c.in-Err.ensures.memory

@@ -1,0 +1,318 @@
+-- What each part of a step does.
+use Rattle.std.specs.Prelude.{ℕ, zero, suc, ◌≡◌, Bool, true, false, not, ◌&&◌, List, [], ◌∷◌, ◌++◌, Option, Some, None}
+use Rattle.host_base.specs.declared.launch.Launch.{Launch}
+use Rattle.host_base.specs.declared.site.ScriptKind.{ScriptKind}
+use Rattle.host_base.specs.declared.site.Site.{Site}
+use Rattle.host_trace.specs.declared.items.Act.{Act}
+use Rattle.host_trace.specs.declared.items.Act.TheVariants.{Shut, Start, WantClient}
+use Rattle.host_trace.specs.declared.items.Item.TheVariants.{Out}
+use Rattle.host_trace.specs.declared.items.Why.{Why}
+use Rattle.host_trace.specs.Kinds.{is_no_memory}
+use Rattle.own_traces.specs.Whose.{next_after}
+use Rattle.child_core.specs.declared.ending.Outcome.TheVariants.{Output}
+use Rattle.child_core.specs.Calls.{offered}
+use Rattle.child_core.specs.Due.{acted, acting, is_feed_due}
+use Rattle.child_core.specs.View.{View, begun}
+use Rattle.trace_child.specs.Words.{is_filled}
+use Rattle.conn_marks.specs.View.{has_room, is_live, noted}
+use Rattle.conn_marks.specs.Form.{given_all}
+use Rattle.exchange_request.specs.Knows.{is_looked_at, limits_of}
+use Rattle.exchange_stage.specs.declared.stage.Leg.{Leg}
+use Rattle.exchange_stage.specs.declared.stage.Stage.{Stage}
+use Rattle.exchange_stage.specs.declared.stage.Stage.TheVariants.{Finishing, Running, Starting}
+use Rattle.conn_front.specs.Moves.{Move, acts_of, continues, gives, settles}
+use Rattle.conn_core.specs.declared.conn.Conn.{Conn}
+use Rattle.conn_core.specs.Begins.{ReadiesAnswer, ReadiesHop}
+use Rattle.conn_core.specs.Kept.{Leads, is_reading, marks_of, number_of, peer_of, site_of}
+use Rattle.conn_core.specs.Moves.{given_up_by, losing}
+use Rattle.conn_core.specs.Ready.{Lacks, Looks, outcome_of_run}
+use Rattle.conn_core.specs.Tells.{TellsAsk, TellsContinue, TellsEnding, TellsMore, TellsTurn, TellsWhy}
+use Rattle.conn_core.specs.Settles.{Follows, ending_of, is_answered, is_over, stood}
+use Rattle.conn_core.specs.Writes.{acts_written, continued, wrote}
+
+-- What a part does: from a connection, where the next child has this number, by these moves, to a connection.
+abbrev pub Deed : Type 1
+Deed = Conn → ℕ → List Move → Conn → Type 0
+
+-- ---- parts together
+
+-- one after the other
+pub record Then (First Later : Deed) (old : Conn) (n : ℕ) (moves : List Move) (new : Conn) : Type 0 where
+  pub mid : Conn
+  pub sooner : List Move
+  pub later : List Move
+  pub are : moves ≡ sooner ++ later
+  pub first : First old n sooner mid
+  pub second : Later mid (next_after n (acts_of sooner)) later new
+
+-- one or the other
+pub data Or (One Other : Deed) (old : Conn) (n : ℕ) (moves : List Move) (new : Conn) : Type 0 where
+  the_one : One old n moves new → Or One Other old n moves new
+  the_other : Other old n moves new → Or One Other old n moves new
+
+-- A part that changes something: its marks know the acts, and what is known of its exchange beside its script goes on.
+pub record Part (By : Deed) (old : Conn) (n : ℕ) (moves : List Move) (new : Conn) : Type 0 where
+  pub site : site_of new ≡ site_of old
+  pub peer_is : peer_of new ≡ peer_of old
+  pub marks : marks_of new ≡ given_all (marks_of old) (acts_of moves)
+  pub leads : Leads (site_of old) (number_of old) old new moves
+  pub by : By old n moves new
+
+pub record Nothing (old : Conn) (n : ℕ) (moves : List Move) (new : Conn) : Type 0 where
+  pub none : moves ≡ []
+  pub same : new ≡ old
+
+abbrev pub gives_all : List Act → List Move
+gives_all [] = []
+gives_all (act ∷ acts) = gives act ∷ gives_all acts
+
+-- ---- memory is wanting
+
+-- The connection is over, and its child given up; its stage is another, but no answer stands whole that didn't, and of
+-- the request the limits stay.
+pub record GivesUp (old new : Conn) : Type 0 where
+  pub is : new ≡ losing (record old { stage = new.stage; request = new.request })
+  pub limits : limits_of new.request ≡ limits_of old.request
+  pub answered : is_answered new.stage ≡ is_answered old.stage
+
+pub record Loses (old : Conn) (n : ℕ) (moves : List Move) (new : Conn) : Type 0 where
+  pub none : moves ≡ []
+  pub gives_up : GivesUp old new
+
+-- ---- the end of an exchange
+
+abbrev pub EndsBy : Bool → Deed
+EndsBy true old n moves new = (moves ≡ settles (ending_of old) ∷ []) × Follows old new
+EndsBy false old n moves new = Nothing old n moves new
+
+-- where the whole answer stands and no child is left, the next exchange begins
+abbrev pub Ends : Deed
+Ends old n moves new = EndsBy (is_over old) old n moves new
+
+-- ---- what came is looked at, and 100 Continue written
+
+-- the request was looked at
+pub record LooksAt (old : Conn) (n : ℕ) (moves : List Move) (new : Conn) : Type 0 where
+  pub none : moves ≡ []
+  pub found : new.lost ≡ false
+  pub looked : Looks old new
+
+-- nothing ends the connection, and bytes came that nobody has looked at while the request is read
+abbrev pub ReadsBy : Bool → Bool → Deed
+ReadsBy false true old n moves new = Or LooksAt Loses old n moves new
+ReadsBy _ _ old n moves new = Nothing old n moves new
+
+pub record ReadsOn (old : Conn) (n : ℕ) (moves : List Move) (new : Conn) : Type 0 where
+  pub ending : Bool
+  pub tells : TellsEnding old ending
+  pub by : ReadsBy ending (is_reading old.stage && not (is_looked_at old.request)) old n moves new
+
+pub record Continues (old : Conn) (n : ℕ) (moves : List Move) (new : Conn) : Type 0 where
+  pub moves_are : moves ≡ continues old.marks.c ∷ []
+  pub is : new ≡ continued true old
+
+abbrev pub LetsOnBy : Bool → Deed
+LetsOnBy true old n moves new = Or Continues Loses old n moves new
+LetsOnBy false old n moves new = Nothing old n moves new
+
+pub record LetsOn (old : Conn) (n : ℕ) (moves : List Move) (new : Conn) : Type 0 where
+  pub due : Bool
+  pub tells : TellsContinue old due
+  pub by : LetsOnBy due old n moves new
+
+-- ---- the answer
+
+-- what is due of it was made ready
+pub record MakesReady (stamp : Option ℕ) (old : Conn) (n : ℕ) (moves : List Move) (new : Conn) : Type 0 where
+  pub none : moves ≡ []
+  pub found : new.lost ≡ false
+  pub readies : ReadiesAnswer old.stage stamp old new
+
+-- memory was wanting for it; where the output has ended, the reply had not
+pub record LosesReady (old : Conn) (n : ℕ) (moves : List Move) (new : Conn) : Type 0 where
+  pub loses : Loses old n moves new
+  pub lacks : (leg : Leg) → old.stage ≡ Running leg → outcome_of_run old.run ≡ Some Output → Lacks leg.reply
+
+-- a part of a reply is written
+pub record WritesPart (leg : Leg) (old : Conn) (n : ℕ) (moves : List Move) (new : Conn) : Type 0 where
+  pub moves_are : moves ≡ gives_all (acts_written old.marks.c leg.text true)
+  pub is : new ≡ record (wrote leg.text true old) { stage = Running (record leg { text = [] }) }
+
+-- .. or all that is left of the answer
+pub record WritesRest (text : List ℕ) (closes : Bool) (old : Conn) (n : ℕ) (moves : List Move) (new : Conn) : Type 0 where
+  pub moves_are : moves ≡ gives_all (acts_written old.marks.c text true)
+  pub is : new ≡ stood closes (wrote text true old)
+
+-- no room was found for this text
+pub record LosesText (text : List ℕ) (old : Conn) (n : ℕ) (moves : List Move) (new : Conn) : Type 0 where
+  pub filled : is_filled text ≡ true
+  pub loses : Loses old n moves new
+
+abbrev pub FinishesBy : List ℕ → Bool → Deed
+FinishesBy text closes = Or (Then (Part (WritesRest text closes)) (Part Ends)) (Part (LosesText text))
+
+abbrev pub GivesBy : Stage → Deed
+GivesBy (Running leg) old n moves new = Or (Part (WritesPart leg)) (Part Loses) old n moves new
+GivesBy (Finishing text closes) old n moves new = FinishesBy text closes old n moves new
+GivesBy _ old n moves new = Nothing old n moves new
+
+-- what is ready of the answer is given
+abbrev pub Gives : Deed
+Gives old n moves new = GivesBy old.stage old n moves new
+
+abbrev pub AnswersBy : Bool → Option ℕ → Deed
+AnswersBy true stamp old n moves new = Nothing old n moves new
+AnswersBy false stamp old n moves new = Or (Then (Part (MakesReady stamp)) Gives) (Part LosesReady) old n moves new
+
+-- unless something ends the connection
+pub record AnswersOn (stamp : Option ℕ) (old : Conn) (n : ℕ) (moves : List Move) (new : Conn) : Type 0 where
+  pub ending : Bool
+  pub tells : TellsEnding old ending
+  pub by : AnswersBy ending stamp old n moves new
+
+abbrev pub Answers : Option ℕ → Deed
+Answers stamp = Then (Part ReadsOn) (Then (Part LetsOn) (AnswersOn stamp))
+
+-- ---- the child
+
+-- what is due for it is given
+pub record ServesRun (v : View) (old : Conn) (n : ℕ) (moves : List Move) (new : Conn) : Type 0 where
+  pub moves_are : moves ≡ gives_all (acting (has_room old.marks) v)
+  pub is : new ≡ record old { run = Some (acted (has_room old.marks) v) }
+
+abbrev pub ServesBy : Option View → Deed
+ServesBy None old n moves new = Nothing old n moves new
+ServesBy (Some v) old n moves new = Part (ServesRun v) old n moves new
+
+abbrev pub ServesChild : Deed
+ServesChild old n moves new = ServesBy old.run old n moves new
+
+-- a Feed is due for it
+pub record Feeds (run : Option View) : Type 0 where
+  pub v : View
+  pub run_is : run ≡ Some v
+  pub due : is_feed_due v ≡ true
+
+-- no room was found for a Feed: the connection is over, and its child given up
+pub record LosesFeed (old : Conn) (n : ℕ) (moves : List Move) (new : Conn) : Type 0 where
+  pub none : moves ≡ []
+  pub v : View
+  pub run : old.run ≡ Some v
+  pub due : is_feed_due v ≡ true
+  pub is : new ≡ losing old
+
+-- .. and what is due is given to the child then
+abbrev pub ServesOrLoses : Deed
+ServesOrLoses = Or ServesChild (Then (Part LosesFeed) ServesChild)
+
+abbrev pub Handles : Deed
+Handles = Then ServesOrLoses (Part Ends)
+
+-- ---- a hop
+
+pub record MakesHopReady (stamp : Option ℕ) (old : Conn) (n : ℕ) (moves : List Move) (new : Conn) : Type 0 where
+  pub none : moves ≡ []
+  pub found : new.lost ≡ false
+  pub readies : ReadiesHop old.stage stamp old new
+
+-- the script of the hop is started, and this is its run
+pub record StartsRun (leg : Leg) (launch : Launch) (v : View) (old : Conn) (n : ℕ) (moves : List Move) (new : Conn) : Type 0 where
+  pub moves_are : moves ≡ gives (Start n old.marks.c old.number leg.hop launch) ∷ []
+  pub is : new ≡ record old { run = Some v; stage = Running leg }
+
+-- the run of the next child, to which this input was offered
+abbrev pub run_begun : Site → ℕ → ScriptKind → List ℕ → Bool → View
+run_begun site n kind body whole = offered (begun n kind site.limits) body whole
+
+abbrev pub StartsScript : Leg → Launch → List ℕ → Bool → Deed
+StartsScript leg launch body whole old n moves new = StartsRun leg launch (run_begun (site_of old) n leg.kind body whole) old n moves new
+
+abbrev pub GivesHopBy : Stage → Deed
+GivesHopBy (Finishing text closes) old n moves new = FinishesBy text closes old n moves new
+GivesHopBy (Starting leg launch body whole) old n moves new = Or (Part (StartsScript leg launch body whole)) (Part Loses) old n moves new
+GivesHopBy _ old n moves new = Nothing old n moves new
+
+-- what is ready of the hop is given
+abbrev pub GivesHop : Deed
+GivesHop old n moves new = GivesHopBy old.stage old n moves new
+
+abbrev pub BeginsBy : Bool → Option ℕ → Deed
+BeginsBy true stamp old n moves new = Or (Then (Part (MakesHopReady stamp)) GivesHop) (Part Loses) old n moves new
+BeginsBy false stamp old n moves new = Nothing old n moves new
+
+-- where it has its turn
+pub record Begins (stamp : Option ℕ) (old : Conn) (n : ℕ) (moves : List Move) (new : Conn) : Type 0 where
+  pub turn : Bool
+  pub tells : TellsTurn old turn
+  pub by : BeginsBy turn stamp old n moves new
+
+-- ---- exchange after exchange
+
+-- a round, where something may go on
+pub record Round (stamp : Option ℕ) (old : Conn) (n : ℕ) (moves : List Move) (new : Conn) : Type 0 where
+  pub more : TellsMore old true
+  pub does : Then (Answers stamp) (Begins stamp) old n moves new
+
+-- so many of them
+abbrev pub Rounds : ℕ → Option ℕ → Deed
+Rounds zero stamp old n moves new = Nothing old n moves new
+Rounds (suc turns) stamp old n moves new = Then (Rounds turns stamp) (Round stamp) old n moves new
+
+abbrev pub SomeRounds : Option ℕ → Deed
+SomeRounds stamp old n moves new = (turns : ℕ) × Rounds turns stamp old n moves new
+
+-- something might go on, and doesn't: memory counts as wanting
+pub record LosesTurn (old : Conn) (n : ℕ) (moves : List Move) (new : Conn) : Type 0 where
+  pub more : TellsMore old true
+  pub loses : Loses old n moves new
+
+-- as long as something may go on
+pub record RoundsOn (stamp : Option ℕ) (old : Conn) (n : ℕ) (moves : List Move) (new : Conn) : Type 0 where
+  pub turns : ℕ
+  pub does : Then (Rounds turns stamp) (Or Nothing (Part LosesTurn)) old n moves new
+  pub rests : TellsMore new false
+
+abbrev pub Serves : Option ℕ → Deed
+Serves stamp = Then (Answers stamp) (Then Handles (RoundsOn stamp))
+
+-- ---- the end of a step
+
+pub record Shuts (why : Why) (old : Conn) (n : ℕ) (moves : List Move) (new : Conn) : Type 0 where
+  pub moves_are : moves ≡ gives (Shut old.marks.c why) ∷ []
+  pub is : new ≡ record old { marks = noted old.marks (Out (Shut old.marks.c why)); run = given_up_by (is_no_memory why) old.run }
+
+abbrev pub ShutsBy : Option Why → Deed
+ShutsBy None old n moves new = Nothing old n moves new
+ShutsBy (Some why) old n moves new = Shuts why old n moves new
+
+-- it is shut, where that is due
+pub record Closes (old : Conn) (n : ℕ) (moves : List Move) (new : Conn) : Type 0 where
+  pub why : Option Why
+  pub tells : TellsWhy old why
+  pub by : ShutsBy why old n moves new
+
+pub record Asks (old : Conn) (n : ℕ) (moves : List Move) (new : Conn) : Type 0 where
+  pub moves_are : moves ≡ gives (WantClient old.marks.c) ∷ []
+  pub is : new ≡ record old { marks = noted old.marks (Out (WantClient old.marks.c)) }
+
+-- where it is live, it is shut for a reason of its caller
+abbrev pub DropsBy : Bool → Why → Deed
+DropsBy true why old n moves new = Part (Shuts why) old n moves new
+DropsBy false why old n moves new = Nothing old n moves new
+
+abbrev pub Drops : Why → Deed
+Drops why old n moves new = DropsBy (is_live old.marks) why old n moves new
+
+abbrev pub WantsBy : Bool → Deed
+WantsBy true old n moves new = Asks old n moves new
+WantsBy false old n moves new = Nothing old n moves new
+
+-- its client is asked, where it must be heard
+pub record Wants (old : Conn) (n : ℕ) (moves : List Move) (new : Conn) : Type 0 where
+  pub due : Bool
+  pub tells : TellsAsk old due
+  pub by : WantsBy due old n moves new
+
+-- a step, behind its event
+abbrev pub Steps : Option ℕ → Deed
+Steps stamp = Then (Serves stamp) (Then (Part Closes) (Part Wants))

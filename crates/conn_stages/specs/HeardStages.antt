@@ -1,0 +1,144 @@
+-- What is known of a connection between two steps, and what an event makes of it.
+use Rattle.std.specs.Prelude.{ℕ, ◌≡◌, ◌≤◌, ◌||◌, Bool, true, false, nat_lt, List, [], Some, is_some, length}
+use Rattle.host_base.specs.declared.cause.Cause.{Cause}
+use Rattle.host_base.specs.declared.request.Request.{Request}
+use Rattle.host_trace.specs.declared.items.Event.{Event}
+use Rattle.host_trace.specs.declared.items.Item.{Item}
+use Rattle.host_trace.specs.declared.items.Item.TheVariants.{In}
+use Rattle.own_traces.specs.OwnFits.{fits_own}
+use Rattle.child_core.specs.View.{View}
+use Rattle.conn_marks.specs.Knows.{Knows as KnowsMarks}
+use Rattle.conn_marks.specs.View.{is_live, noted}
+use Rattle.trace_model.specs.Exchange.{Exchange, first_exchange, pushed, reading, request_bytes, up_to}
+use Rattle.trace_model.specs.Exchanges.{current, has_ended}
+use Rattle.trace_model.specs.Legs.{Leg as Started, offered_at}
+use Rattle.trace_model.specs.Readings.{is_bare}
+use Rattle.exchange_request.specs.Knows.{Knows, bare_of, is_looked_at, is_ready, is_taken}
+use Rattle.exchange_stage.specs.declared.stage.Leg.{Leg}
+use Rattle.exchange_stage.specs.declared.stage.Stage.TheVariants.{Interrupted, Running, Unstarted}
+use Rattle.exchange_stage.specs.Bodies.{HasBody, body_heard}
+use Rattle.exchange_stage.specs.Rules.{Rests}
+use Rattle.exchange_stage.specs.Unanswered.{is_awaited}
+use Rattle.conn_children.specs.Children.{KnowsChildren, dropped}
+use Rattle.conn_children.specs.Heard.{run_heard}
+use Rattle.conn_core.specs.declared.conn.Conn.{Conn}
+use Rattle.conn_core.specs.Hears.{Hears}
+use Rattle.conn_core.specs.New.{IsNew}
+use Rattle.conn_core.specs.Kept.{StandsFor, is_reading, marks_of, number_of, site_of}
+use Rattle.conn_core.specs.Ready.{Looked, undrained}
+use Rattle.conn_core.specs.Reasons.{ends_with, is_done_with}
+use Rattle.conn_stages.specs.Staged.{Lost, Staged}
+
+-- ---- its request
+
+-- A script that waits for its turn has the body as far as it was heard. Once the request is not read any more, all that
+-- was heard was looked at, or it was read to its end; and once it was found ready, all that came of its body was handed
+-- out.
+pub record HasHeard (conn : Conn) (e : Exchange) : Type 0 where
+  pub bodies : (hop : ℕ) (request : Request) → conn.stage ≡ Unstarted hop request → HasBody (site_of conn) (number_of conn) e hop request
+  pub looked : is_reading conn.stage ≡ false → (is_looked_at conn.request || is_taken conn.request) ≡ true
+  pub handed : is_ready conn.request ≡ true → Knows conn.request (request_bytes (number_of conn) e) (length (body_heard (site_of conn) (number_of conn) e))
+
+-- ---- between two steps
+
+-- At this exchange nothing is due. While the connection is live nothing ends it, and 100 Continue doesn't wait to be
+-- written.
+pub record Rested (conn : Conn) (e : Exchange) (legs : List Started) : Type 0 where
+  pub staged : Staged conn e legs
+  pub rests : Rests (site_of conn) (number_of conn) e legs (is_looked_at conn.request) staged.more conn.stage
+  pub heard : HasHeard conn e
+  pub going : is_live (marks_of conn) ≡ true → ends_with conn (is_done_with conn (request_bytes (number_of conn) e)) ≡ false
+  pub let_on : is_live (marks_of conn) ≡ true → conn.continued ≡ false → is_awaited (site_of conn) (number_of conn) e ≡ false
+
+-- .. where memory was wanting it was shut, and its run is decided
+pub record RestedLost (conn : Conn) (e : Exchange) (legs : List Started) : Type 0 where
+  pub lost : Lost conn e legs
+  pub shut : (marks_of conn).shut ≡ true
+  pub decided : (v : View) → conn.run ≡ Some v → is_some v.outcome ≡ true
+
+-- The items of the connection, which speaks HTTP, are these, and this exchange goes on, for which these legs were started.
+-- Only a client that had not ended its input was asked, of a connection that was accepted; of another nothing was heard.
+pub record AtRest (conn : Conn) (L : List Item) (e : Exchange) (legs : List Started) (next : ℕ) : Type 0 where
+  pub two : 2 ≤ (site_of conn).limits.head
+  pub now : e ≡ current (site_of conn) (number_of conn) L
+  pub front : StandsFor conn e
+  pub children : KnowsChildren (site_of conn) (number_of conn) e false next legs conn.run
+  pub marks : KnowsMarks (marks_of conn) L
+  pub http : (marks_of conn).upgraded ≡ false
+  pub unheard : (marks_of conn).accepted ≡ false → (request_bytes (number_of conn) e ≡ []) × (e.closed ≡ false)
+  pub unended : has_ended (site_of conn) (number_of conn) e ≡ false
+  pub asked : (marks_of conn).asked ≡ true → ((marks_of conn).accepted ≡ true) × ((marks_of conn).ended ≡ false)
+  pub found : conn.lost ≡ false → Rested conn e legs
+  pub lost : conn.lost ≡ true → RestedLost conn e legs
+
+-- Before it heard anything a connection is at rest.
+abbrev pub StartsRest : Type 0
+StartsRest = (conn : Conn) (next : ℕ) → 2 ≤ (site_of conn).limits.head → IsNew conn → AtRest conn [] first_exchange [] next
+
+-- ---- an event
+
+-- nothing else changes than what an event may change
+pub record SameAs (old new : Conn) : Type 0 where
+  pub site : site_of new ≡ site_of old
+  pub number : number_of new ≡ number_of old
+  pub cut : new.cut ≡ old.cut
+  pub closing : new.closing ≡ old.closing
+  pub closes : new.closes ≡ old.closes
+  pub continued : new.continued ≡ old.continued
+
+-- .. but the marks, which know the event
+pub record KeepsRest (old : Conn) (ev : Event) (new : Conn) : Type 0 where
+  pub same : SameAs old new
+  pub marks : marks_of new ≡ noted (marks_of old) (In ev)
+
+-- So does each event, whether memory is wanting or not.
+abbrev pub EventsKeep : Type 0
+EventsKeep = (old new : Conn) (ev : Event) → (h : Hears old ev new) → KeepsRest old ev h.mid
+
+-- Memory was found: the run heard the event. Whether a broken request is bare is known; of a reply all was written that
+-- was handed out, and a Tick comes by itself.
+pub record HeardWell (old new : Conn) (e : Exchange) (ev : Event) (legs : List Started) : Type 0 where
+  pub staged : Staged new (pushed e (In ev)) legs
+  pub run : new.run ≡ run_heard (site_of old) (number_of old) e legs true ev old.run
+  pub heard : HasHeard new (pushed e (In ev))
+  pub bare : (cause : Cause) → new.stage ≡ Interrupted cause → bare_of new.request ≡ is_bare (reading (site_of new) (number_of new) (pushed e (In ev)))
+  pub written : (leg : Leg) → new.stage ≡ Running leg → leg.text ≡ []
+  pub apart : (leg : Leg) → new.stage ≡ Running leg → leg.ticked ≡ true → undrained new.run ≡ []
+
+-- .. it was wanting: the run heard the event, with what it carries or without, and was given up
+pub record HeardLost (old new : Conn) (e : Exchange) (ev : Event) (legs : List Started) : Type 0 where
+  pub lost : Lost new (pushed e (In ev)) legs
+  pub found : Bool
+  pub run : new.run ≡ dropped (run_heard (site_of old) (number_of old) e legs found ev old.run)
+
+-- .. it had been wanting
+pub record HeardStill (old new : Conn) (e : Exchange) (ev : Event) (legs : List Started) : Type 0 where
+  pub lost : Lost new (pushed e (In ev)) legs
+  pub run : new.run ≡ run_heard (site_of old) (number_of old) e legs true ev old.run
+
+-- An event that fits, heard between two steps, leads to the stage that the model says, where memory was found. (Whether
+-- its exchange has ended then is asked afterwards.)
+abbrev pub EventsAreStaged : Type 0
+EventsAreStaged = (old new : Conn) (L : List Item) (e : Exchange) (legs : List Started) (next : ℕ) (ev : Event) → AtRest old L e legs next
+    → fits_own (site_of old).limits.children L ev ≡ true → old.lost ≡ false → (h : Hears old ev new) → h.mid.lost ≡ false → HeardWell old h.mid e ev legs
+
+-- .. and where it was wanting, to what is known then.
+abbrev pub EventsLose : Type 0
+EventsLose = (old new : Conn) (L : List Item) (e : Exchange) (legs : List Started) (next : ℕ) (ev : Event) → AtRest old L e legs next
+    → fits_own (site_of old).limits.children L ev ≡ true → old.lost ≡ false → (h : Hears old ev new) → h.mid.lost ≡ true → HeardLost old h.mid e ev legs
+
+-- .. and where it had been wanting, it stays so; for all that comes there is room.
+abbrev pub EventsStayLost : Type 0
+EventsStayLost = (old new : Conn) (L : List Item) (e : Exchange) (legs : List Started) (next : ℕ) (ev : Event) → AtRest old L e legs next
+    → fits_own (site_of old).limits.children L ev ≡ true → old.lost ≡ true → (h : Hears old ev new) → (h.mid.lost ≡ true) × HeardStill old h.mid e ev legs
+
+-- ---- its body, within a step
+
+-- What came of the body is what there is for the input of a script that waits for its turn.
+abbrev pub OffersAreKnown : Type 0
+OffersAreKnown = (conn : Conn) (e : Exchange) (hop : ℕ) (request : Request) → StandsFor conn e → conn.lost ≡ false → e.closed ≡ false → HasHeard conn e → conn.stage ≡ Unstarted hop request
+    → offered_at (site_of conn) (number_of conn) (up_to e []) hop e.items ≡ record { body = request.body; whole = nat_lt 0 hop || is_taken conn.request }
+
+-- A look at what was heard hands out what came of the body.
+abbrev pub LooksAreHeard : Type 0
+LooksAreHeard = (old new : Conn) (e : Exchange) → StandsFor old e → old.lost ≡ false → e.closed ≡ false → HasHeard old e → Looked old new → HasHeard new e

@@ -1,0 +1,207 @@
+-- Where an exchange is over the next one begins.
+use Rattle.std.proofs.Common.{◌≡◌, ◌≤◌, ℕ, Bool, true, false, ◌&&◌, ◌||◌, not, List, [], ◌∷◌, ◌++◌, Option, None, refl, sym, ap, ◌∙◌, subst, append-nil}
+use Rattle.std.proofs.lemmas.Bool.{and_from, and_parts, false≢true, false_from_ne_true, not-true, or_parts}
+use Rattle.host_base.specs.declared.limits.Limits.{Limits}
+use Rattle.host_base.specs.declared.site.Site.{Site}
+use Rattle.host_trace.specs.declared.items.Act.{Act}
+use Rattle.host_trace.specs.declared.items.Event.{Event}
+use Rattle.host_trace.specs.declared.items.Item.{Item}
+use Rattle.host_trace.specs.Projections.{shut}
+use Rattle.head_reader.specs.declared.step.HeadStep.TheVariants as Step
+use Rattle.request_reader.specs.Request.{is_begun, read_request}
+use Rattle.request_reader.proofs.ReadingLaws.{reading_at}
+use Rattle.request_reader.proofs.RequestLaws.{begun_at}
+use Rattle.child_core.specs.View.{View}
+use Rattle.trace_model.specs.Exchange.{Exchange, reading, request_bytes}
+use Rattle.trace_model.specs.Exchanges.{following}
+use Rattle.trace_model.specs.Readings.{is_due}
+use Rattle.exchange_request.specs.Knows.{is_looked_at}
+use Rattle.exchange_stage.specs.declared.stage.Stage.{Stage}
+use Rattle.exchange_stage.specs.declared.stage.Stage.TheVariants as At
+use Rattle.exchange_stage.specs.StageIs.{IsAnswered, LostIs, StageIs}
+use Rattle.exchange_stage.specs.Unanswered.{is_awaited, is_open}
+use Rattle.exchange_stage.proofs.BeginLaws.{next_is_read}
+use Rattle.exchange_stage.proofs.CutLaws.{losses_are_known}
+use Rattle.exchange_stage.proofs.WholeLaws.{whole_is_answered}
+use Rattle.conn_marks.specs.View.{View as Marks, may_write}
+use Rattle.conn_marks.specs.Form.{are_given}
+use Rattle.conn_children.specs.Step.{Turn}
+use Rattle.conn_children.specs.Moves.{Deals}
+use Rattle.conn_children.proofs.MoveLaws.{ends_move}
+use Rattle.conn_front.specs.Moves.{HasEnded, Move, acts_of, settles}
+use Rattle.conn_core.specs.declared.conn.Conn.{Conn}
+use Rattle.conn_core.specs.Kept.{is_reading, marks_of, number_of, site_of}
+use Rattle.conn_core.specs.Ready.{outcome_of_run}
+use Rattle.conn_core.specs.Reasons.{is_done_with}
+use Rattle.conn_core.specs.Settles.{Follows, ending_of, is_answered, is_over}
+use Rattle.conn_core.specs.Slot.{run_settled}
+use Rattle.conn_stages.specs.Staged.{Lost}
+use Rattle.conn_stages.proofs.EndLaws.{ends_noticed, is_at_answered}
+use Rattle.conn_stages.proofs.ItemLaws.{next_staged}
+use Rattle.conn_steps.specs.Standing.{BodiesAt, Claim, CutIs, IsDecided, Leaves, Makes, Quiet, QuietBy, Standing, StaysRun, ends_at, is_early, is_left}
+use Rattle.conn_steps.proofs.EndWords.{goes}
+use Rattle.conn_core.specs.Parts.{Ends, EndsBy, Part}
+use Rattle.conn_steps.proofs.StageWords.{ended_lost, known, stage_at}
+use Rattle.conn_steps.proofs.ThenLaws.{leaves_made, leaves_none}
+
+-- where 100 Continue is due a request has begun
+pub due_begun : (limits : Limits) (bytes : List ℕ) → 2 ≤ limits.head → is_due (read_request limits bytes) ≡ true → is_begun bytes ≡ true
+due_begun limits bytes two due = sym (begun_at limits bytes two (λ more. false≢true (sym (ap is_due (reading_at limits bytes Step.More more)) ∙ due)))
+
+-- what is to hold where an exchange is taken for ended: nothing was heard that ends the connection
+pub record Steady (conn : Conn) : Type 0 where
+  pub unstopped : (marks_of conn).stopped ≡ false
+  pub here : (marks_of conn).gone ≡ false
+
+and_none : (a b : Bool) → b ≡ false → (a && true && b) ≡ false
+and_none true b e = e
+and_none false b e = refl
+
+module _ (L : List Item) (ev : Event) (acts : List Act) (turn : Turn) (e : Exchange) (old : Conn) (n : ℕ) (s : Standing L ev acts turn n e old) (two : 2 ≤ (site_of old).limits.head)
+    (over : is_over old ≡ true) where
+  parts : (is_answered old.stage ≡ true) × (run_settled old.run ≡ true)
+  parts = and_parts (is_answered old.stage) (run_settled old.run) over
+
+  pub at : old.stage ≡ At.Answered
+  at = is_at_answered old.stage parts.0
+
+  -- its whole answer stands, whether memory was wanting or not
+  answered : IsAnswered (site_of old) (number_of old) e s.legs old.continued (old.closing || old.closes)
+  answered = go old.lost refl
+    where
+      go : (b : Bool) → old.lost ≡ b → IsAnswered (site_of old) (number_of old) e s.legs old.continued (old.closing || old.closes)
+      go false found = stage_at old e s.legs At.Answered at (s.staged found)
+      go true is = subst (λ (t : Stage). LostIs (site_of old) (number_of old) e s.legs old.continued (old.closing || old.closes) t) at (s.lost is)
+
+  open_yet : old.closing ≡ false
+  open_yet = s.front.closing ∙ answered.unclosed
+
+  calm : old.idled ≡ false
+  calm = false_from_ne_true old.idled (λ idle. false≢true (sym (ap is_reading at) ∙ s.inward.calm idle))
+
+  ended : HasEnded (site_of old) (number_of old) e (ending_of old)
+  ended = go old.lost refl
+    where
+      go : (b : Bool) → old.lost ≡ b → HasEnded (site_of old) (number_of old) e (ending_of old)
+      go false found =
+          ends_noticed old e s.legs two (record {
+            front = s.front;
+            staged = s.staged found;
+            early = false;
+            next = n;
+            children = known L ev acts turn n e old s found;
+            calm = calm;
+            looked = s.inward.looked found (ap is_reading at);
+          }) over
+      go true is = record {
+        over = ended_lost L ev acts turn n e old s is ∙ over;
+        closes = sym (answered.closes_is ∙ ap (λ (b : Bool). b || old.closes) open_yet);
+        idled = calm;
+        taken = λ found. absurd (false≢true (sym found ∙ is));
+      }
+
+  -- ---- the next one
+
+  module _ (new : Conn) (f : Follows old new) where
+    abbrev then_e : Exchange
+    then_e = following (site_of old) (number_of old) e
+
+    number : number_of new ≡ number_of old
+    number = ap (λ (m : Marks). m.c) f.marks
+
+    read_then : StageIs (site_of old) (number_of old) then_e [] false false (old.closing || old.closes) [] At.Reading
+    read_then = next_is_read (site_of old) (number_of old) e s.legs old.continued (is_looked_at old.request) (old.closing || old.closes) [] answered ended.over
+
+    lost_then : Lost new then_e []
+    lost_then =
+        let unfinished = whole_is_answered (site_of old) (number_of old) then_e [] false false (old.closing || old.closes) [] At.Reading read_then tt in
+        let here = losses_are_known (site_of old) (number_of old) then_e [] false false (old.closing || old.closes) [] At.Reading read_then unfinished in
+        subst (λ (t : Stage). LostIs (site_of new) (number_of new) then_e [] new.continued (new.closing || new.closes) t) (sym f.stage)
+        (subst (λ (t : Site). LostIs t (number_of new) then_e [] new.continued (new.closing || new.closes) At.Reading) (sym f.site)
+        (subst (λ (d : ℕ). LostIs (site_of old) d then_e [] new.continued (new.closing || new.closes) At.Reading) (sym number)
+        (subst (λ (b : Bool). LostIs (site_of old) (number_of old) then_e [] b (new.closing || new.closes) At.Reading) (sym f.front.continued) here)))
+
+    deals_then : Deals (site_of new) (number_of new) L ev acts then_e (s.over ++ e ∷ []) (is_early new) turn n [] new.run
+    deals_then =
+        subst (λ (r : Option View). Deals (site_of new) (number_of new) L ev acts then_e (s.over ++ e ∷ []) (is_early new) turn n [] r) (sym f.run)
+        (subst (λ (t : Site). Deals t (number_of new) L ev acts then_e (s.over ++ e ∷ []) (is_early new) turn n [] None) (sym f.site)
+        (subst (λ (d : ℕ). Deals (site_of old) d L ev acts then_e (s.over ++ e ∷ []) (is_early new) turn n [] None) (sym number)
+        (ends_move (site_of old) (number_of old) L ev acts e s.over (is_early old) (is_early new) turn turn n s.legs old.run ended.over s.children)))
+
+    cut_none : old.lost ≡ false → old.cut ≡ None
+    cut_none found = subst (λ (t : Stage). CutIs t (outcome_of_run old.run) old.cut) at (s.inward.cut_is found)
+
+    -- nothing ends it, where 100 Continue is due
+    on_then : old.lost ≡ false → ((marks_of old).shut ≡ false → Steady old) → is_awaited (site_of new) (number_of new) then_e ≡ true → ends_at new then_e ≡ false
+    on_then found steady awaited =
+        let here : is_awaited (site_of old) (number_of old) then_e ≡ true =
+        subst (λ (t : Site). is_awaited t (number_of old) then_e ≡ true) f.site (subst (λ (d : ℕ). is_awaited (site_of new) d then_e ≡ true) number awaited) in
+        let both = and_parts (is_open (number_of old) then_e) (is_due (reading (site_of old) (number_of old) then_e)) here in
+        let unclosed : then_e.closed ≡ false = not-true then_e.closed (and_parts (not then_e.closed) _ both.0).0 in
+        let unshut : (marks_of old).shut ≡ false = s.marks.shut ∙ not-true (shut then_e.before (number_of old)) (and_parts (not then_e.closed) (not (shut then_e.before (number_of old))) both.0).1 in
+        let may : may_write (marks_of old) ≡ true =
+        and_from _ _ (and_from _ _ (s.inward.accepted (ap is_reading at)) (ap not unshut)) (ap not s.inward.http) in
+        let stays : old.closes ≡ false = ended.closes ∙ (or_parts e.closed _ unclosed).1 in
+        let begun : is_begun (request_bytes (number_of old) then_e) ≡ true = due_begun (site_of old).limits (request_bytes (number_of old) then_e) two both.1 in
+        let begun_now : is_begun (request_bytes (number_of new) then_e) ≡ true = subst (λ (d : ℕ). is_begun (request_bytes d then_e) ≡ true) (sym number) begun in
+        goes new (is_done_with new (request_bytes (number_of new) then_e)) (record {
+          may = ap may_write f.marks ∙ may;
+          unstopped = ap (λ (m : Marks). m.stopped) f.marks ∙ (steady unshut).unstopped;
+          here = ap (λ (m : Marks). m.gone) f.marks ∙ (steady unshut).here;
+          found = f.lost ∙ found;
+          calm = f.front.idled ∙ calm;
+          open_yet = f.front.closing ∙ (ap (λ (b : Bool). b || old.closes) open_yet ∙ stays);
+          unclosed = f.front.closes;
+          uncut = f.cut ∙ cut_none found;
+          undone = ap (λ (t : Stage). (marks_of new).ended && is_reading t && not (is_begun (request_bytes (number_of new) then_e))) f.stage
+              ∙ and_none (marks_of new).ended (not (is_begun (request_bytes (number_of new) then_e))) (ap not begun_now);
+        })
+
+    quiet_then : (old.lost ≡ false → (marks_of old).shut ≡ false → Steady old) → Quiet then_e new
+    quiet_then steady = record {
+      unover = ap (λ (t : Stage). is_answered t && run_settled new.run) f.stage;
+      found = λ found. record {
+        quiet = subst (λ (t : Stage). QuietBy new then_e t) (sym f.stage) tt;
+        let_on = λ u c awaited. (on_then (sym f.lost ∙ found) (steady (sym f.lost ∙ found)) awaited, f.front.looked, ap is_reading f.stage);
+      };
+    }
+
+    pub ends_make : (Post : Claim) → (old.lost ≡ false → (marks_of old).shut ≡ false → Steady old) → (Quiet then_e new → new.run ≡ None → Post turn then_e new) → Makes Post L ev acts e old n (settles (ending_of old) ∷ []) new
+    ends_make Post steady post = record {
+      in_step = (ended, tt);
+      right = (answered.unclosed, tt);
+      turn = turn;
+      over = s.over ++ e ∷ [];
+      legs = [];
+      staged = λ found. next_staged old new e s.legs (s.staged (sym f.lost ∙ found)) over ended.over f;
+      lost = λ is. lost_then;
+      children = subst (λ (l : List Act). Deals (site_of new) (number_of new) L ev l then_e (s.over ++ e ∷ []) (is_early new) turn n [] new.run) (sym (append-nil acts)) deals_then;
+      bodies = λ found. subst (λ (t : Stage). BodiesAt (site_of new) (number_of new) then_e t) (sym f.stage) tt;
+      inward = record {
+        calm = λ idle. ap is_reading f.stage;
+        accepted = λ r. absurd (false≢true (sym r ∙ ap is_reading f.stage));
+        cut_is = λ found. subst (λ (t : Stage). CutIs t (outcome_of_run new.run) new.cut) (sym f.stage) (f.cut ∙ cut_none (sym f.lost ∙ found));
+        held = λ shut. subst (λ (r : Option View). IsDecided r) (sym f.run) tt;
+        looked = λ found r. absurd (false≢true (sym r ∙ ap is_reading f.stage));
+        http = ap (λ (m : Marks). m.upgraded) f.marks ∙ s.inward.http;
+        lost_in = λ is. ap (λ (m : Marks). m.accepted) f.marks ∙ s.inward.accepted (ap is_reading at);
+        decided = λ found r. subst (λ (r : Option View). IsDecided r) (sym f.run) tt;
+        left = λ found is. absurd (false≢true (sym (ap (λ (r : Option View). is_left (outcome_of_run r)) f.run) ∙ is));
+        stays = λ found unshut ends. subst (λ (r : Option View). StaysRun r) (sym f.run) tt;
+      };
+      post = post (quiet_then steady) f.run;
+    }
+
+-- Where it is over the next one begins, and nothing changes where it is not.
+pub ends_leave : (Post : Claim) (L : List Item) (ev : Event) (acts : List Act) (turn : Turn) (e : Exchange) (old new : Conn) (n : ℕ) (moves : List Move) → Standing L ev acts turn n e old
+    → 2 ≤ (site_of old).limits.head → (is_over old ≡ true → old.lost ≡ false → (marks_of old).shut ≡ false → Steady old) → (is_over old ≡ false → Post turn e old)
+    → ((e' : Exchange) → Quiet e' new → new.run ≡ None → Post turn e' new) → Part Ends old n moves new → are_given (marks_of old) (acts_of moves) ≡ true
+    → Leaves Post L ev acts e old n moves new
+ends_leave Post L ev acts turn e old new n moves s two steady on over p form = go (is_over old) refl p.by
+  where
+    go : (b : Bool) → is_over old ≡ b → EndsBy b old n moves new → Leaves Post L ev acts e old n moves new
+    go true is f =
+        leaves_made Ends Post L ev acts turn e old new n moves s p form
+        (subst (λ (l : List Move). Makes Post L ev acts e old n l new) (sym f.0)
+        (ends_make L ev acts turn e old n s two is new f.1 Post (steady is) (over (following (site_of old) (number_of old) e))))
+    go false is none = leaves_none Post L ev acts turn e old new n moves s none (on is)

@@ -1,0 +1,70 @@
+-- A client that must be heard was asked.
+use Rattle.std.proofs.Common.{◌≡◌, ℕ, Bool, true, false, ◌&&◌, ◌||◌, List, refl, sym, ◌∙◌, subst}
+use Rattle.std.proofs.lemmas.Bool.{and_parts, or_left}
+use Rattle.host_trace.specs.declared.items.Act.{Act}
+use Rattle.host_trace.specs.declared.items.Event.{Event}
+use Rattle.host_trace.specs.declared.items.Item.{Item}
+use Rattle.host_trace.specs.Projections.{client_wanted}
+use Rattle.trace_model.specs.Demands.{is_live as live_then, must_hear}
+use Rattle.trace_model.specs.Exchange.{Exchange, all_of}
+use Rattle.trace_model.specs.Hears.{hears}
+use Rattle.exchange_request.specs.Knows.{is_looked_at, is_taken}
+use Rattle.exchange_stage.specs.declared.stage.Stage.{Stage}
+use Rattle.exchange_stage.specs.Rules.{Rests}
+use Rattle.exchange_stage.proofs.AskLaws.{shut_asks}
+use Rattle.exchange_stage.proofs.RestLaws.{met, no_demand}
+use Rattle.conn_laws.proofs.FormLaws.{marks_say}
+use Rattle.conn_marks.specs.View.{has_room, is_live}
+use Rattle.conn_children.specs.Step.{Turn}
+use Rattle.conn_core.specs.declared.conn.Conn.{Conn}
+use Rattle.conn_core.specs.Kept.{is_reading, marks_of, number_of, site_of}
+use Rattle.conn_core.specs.Reasons.{hears_at}
+use Rattle.conn_stages.proofs.AskLaws.{asks_due}
+use Rattle.conn_steps.specs.Standing.{Standing}
+use Rattle.conn_steps.proofs.ReadLaws.{is_at_reading}
+use Rattle.conn_steps.proofs.RestWords.{rests_now}
+use Rattle.conn_steps.proofs.StageWords.{known, more_in}
+use Rattle.conn_steps.proofs.WantLaws.{Done}
+
+module _ (L : List Item) (ev : Event) (acts : List Act) (turn : Turn) (e : Exchange) (conn : Conn) (n : ℕ) (s : Standing L ev acts turn n e conn) (d : Done turn e conn) (found : conn.lost ≡ false) where
+  live_same : live_then (number_of conn) (all_of e) ≡ is_live (marks_of conn)
+  live_same = sym (marks_say (marks_of conn) (all_of e) s.marks).live
+
+  looked : is_live (marks_of conn) ≡ true → (is_looked_at conn.request || is_taken conn.request) ≡ true
+  looked live = go (is_reading conn.stage) refl
+    where
+      go : (b : Bool) → is_reading conn.stage ≡ b → (is_looked_at conn.request || is_taken conn.request) ≡ true
+      go false r = s.inward.looked found r
+      go true r =
+          or_left (is_looked_at conn.request) (is_taken conn.request)
+          (subst (λ (t : Stage). Rests (site_of conn) (number_of conn) e s.legs (is_looked_at conn.request) (more_in conn e s.legs (s.staged found)) t) (is_at_reading conn.stage r)
+          (rests_now L ev acts turn e conn n s d.closed found) (live_same ∙ live))
+
+  asks : is_live (marks_of conn) ≡ true → must_hear (site_of conn) (number_of conn) e ≡ (is_live (marks_of conn) && has_room (marks_of conn) && hears_at conn conn.stage)
+  asks live =
+      asks_due conn e s.legs (record {
+        front = s.front;
+        staged = s.staged found;
+        rests = rests_now L ev acts turn e conn n s d.closed found;
+        marks = s.marks;
+        next = n;
+        children = known L ev acts turn n e conn s found;
+        found = found;
+        looked = looked live;
+      })
+
+  pub hears_found : hears (site_of conn) (number_of conn) e ≡ true
+  hears_found = go (is_live (marks_of conn)) refl
+    where
+      by_ask : is_live (marks_of conn) ≡ true → (b : Bool) → must_hear (site_of conn) (number_of conn) e ≡ b → hears (site_of conn) (number_of conn) e ≡ true
+      by_ask live false none = no_demand (must_hear (site_of conn) (number_of conn) e) (client_wanted (all_of e) (number_of conn)) none
+      by_ask live true must =
+          let p = and_parts (is_live (marks_of conn) && has_room (marks_of conn)) (hears_at conn conn.stage) (sym (asks live) ∙ must) in
+          let q = and_parts (is_live (marks_of conn)) (has_room (marks_of conn)) p.0 in
+          met (must_hear (site_of conn) (number_of conn) e) (client_wanted (all_of e) (number_of conn))
+          (sym (marks_say (marks_of conn) (all_of e) s.marks).asked ∙ d.asked (d.closed.on live) q.1 p.1)
+
+      go : (b : Bool) → is_live (marks_of conn) ≡ b → hears (site_of conn) (number_of conn) e ≡ true
+      go true live = by_ask live (must_hear (site_of conn) (number_of conn) e) refl
+      go false dead =
+          no_demand (must_hear (site_of conn) (number_of conn) e) (client_wanted (all_of e) (number_of conn)) (shut_asks (site_of conn) (number_of conn) e (live_same ∙ dead))

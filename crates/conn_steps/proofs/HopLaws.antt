@@ -1,0 +1,208 @@
+-- What waits for its turn is made ready, and given.
+use Rattle.std.proofs.Common.{◌≡◌, ◌≤◌, ℕ, Bool, true, false, ◌&&◌, ◌||◌, not, List, [], ◌∷◌, ◌++◌, Option, Result, Ok, Err, refl, sym, ap, ◌∙◌, subst, append-nil}
+use Rattle.std.specs.Prelude.{nat_lt}
+use Rattle.std.proofs.lemmas.Bool.{false≢true, or_from}
+use Rattle.host_base.specs.declared.cause.Cause.{Cause}
+use Rattle.host_base.specs.declared.request.Request.{Request}
+use Rattle.host_base.specs.declared.site.Mapped.{Mapped}
+use Rattle.host_base.specs.declared.site.ScriptKind.{ScriptKind}
+use Rattle.host_base.specs.declared.site.ScriptKind.TheVariants.{Cgi, Nph, WebSocket}
+use Rattle.host_trace.specs.declared.items.Act.{Act}
+use Rattle.host_trace.specs.declared.items.Event.{Event}
+use Rattle.host_trace.specs.declared.items.Item.{Item}
+use Rattle.host_trace.specs.declared.items.Item.TheVariants.{In}
+use Rattle.host_trace.specs.Projections.{last_secs}
+use Rattle.request_reader.specs.Request.{is_begun}
+use Rattle.trace_model.specs.Exchange.{Exchange, request_bytes}
+use Rattle.exchange_request.specs.Knows.{is_taken}
+use Rattle.exchange_stage.specs.declared.stage.Stage.{Stage}
+use Rattle.exchange_stage.specs.declared.stage.Stage.TheVariants as At
+use Rattle.exchange_stage.specs.Items.{is_unanswered}
+use Rattle.exchange_stage.proofs.ReasonParts.{no_more}
+use Rattle.conn_marks.specs.View.{has_room}
+use Rattle.conn_marks.specs.Form.{are_given}
+use Rattle.conn_children.specs.Step.{Turn}
+use Rattle.conn_children.specs.Moves.{Deals}
+use Rattle.conn_front.specs.Moves.{Move, acts_of}
+use Rattle.conn_core.specs.declared.conn.Conn.{Conn}
+use Rattle.conn_core.specs.Begins.{PlaceBy, ReadiesHop, Refuses, ScriptBy, Starts, silenced}
+use Rattle.conn_core.specs.Kept.{is_reading, marks_of, number_of, site_of}
+use Rattle.conn_core.specs.Ready.{outcome_of_run}
+use Rattle.conn_core.specs.Reasons.{is_done_with}
+use Rattle.conn_core.specs.Settles.{is_answered, is_over}
+use Rattle.conn_core.specs.Slot.{run_settled}
+use Rattle.conn_stages.specs.Staged.{Staged}
+use Rattle.conn_stages.proofs.HopLaws.{hops_staged}
+use Rattle.conn_core.specs.Parts.{GivesHop, GivesHopBy, MakesHopReady, Nothing}
+use Rattle.conn_steps.specs.Standing.{BodiesAt, CutIs, EvenAt, IsAwake, Leaves, Makes, Quiet, ReadyAt, Rest, Standing, Within, ends_at, is_early, is_running}
+use Rattle.conn_steps.proofs.EndWords.{Going, accepted_of, goes, going, unshut_of}
+use Rattle.conn_steps.proofs.GiveLaws.{rest_leaves}
+use Rattle.conn_steps.proofs.HopWords.{may_hop}
+use Rattle.conn_steps.proofs.StageWords.{even_free, free_settled}
+use Rattle.conn_steps.proofs.StartLaws.{start_leaves}
+use Rattle.conn_steps.proofs.ThenLaws.{leaves_as, leaves_none}
+
+-- it is to be given
+abbrev pub gives_hop : Stage → Bool
+gives_hop (At.Finishing text closes) = true
+gives_hop (At.Starting leg launch body whole) = true
+gives_hop stage = false
+
+-- what a hop has to give is ready: nothing ends the connection, no child is left, and there is room
+pub record HopReady (at : Turn) (turn : Turn) (e : Exchange) (conn : Conn) : Type 0 where
+  pub same : turn ≡ at
+  pub found : conn.lost ≡ false
+  pub unover : is_over conn ≡ false
+  pub on : ends_at conn e ≡ false
+  pub settled : run_settled conn.run ≡ true
+  pub room : has_room (marks_of conn) ≡ true
+  pub quiet : gives_hop conn.stage ≡ false → Quiet e conn
+
+module _ (L : List Item) (ev : Event) (acts : List Act) (turn : Turn) (e : Exchange) (old : Conn) (n : ℕ) (s : Standing L ev acts turn n e old) (two : 2 ≤ (site_of old).limits.head)
+    (q : Quiet e old) (on : ends_at old e ≡ false) (settled : run_settled old.run ≡ true) (room : has_room (marks_of old) ≡ true) (stamp : Option ℕ) (clock : stamp ≡ last_secs (L ++ In ev ∷ [])) where
+  abbrev bytes : List ℕ
+  bytes = request_bytes (number_of old) e
+
+  g : Going old (is_done_with old bytes)
+  g = going old (is_done_with old bytes) on
+
+  deals_same : Deals (site_of old) (number_of old) L ev (acts ++ []) e s.over (is_early old) turn n s.legs old.run
+  deals_same = subst (λ (l : List Act). Deals (site_of old) (number_of old) L ev l e s.over (is_early old) turn n s.legs old.run) (sym (append-nil acts)) s.children
+
+  module _ (stage : Stage) (staged : Staged (record old { stage = stage }) e s.legs) (cut : CutIs stage (outcome_of_run old.run) old.cut) (bodies : BodiesAt (site_of old) (number_of old) e stage)
+      (away : is_reading old.stage ≡ false) (still : is_running old.stage ≡ false) (reads : is_reading stage ≡ false) (none : is_answered stage ≡ false) (given : gives_hop stage ≡ true) where
+    abbrev mid : Conn
+    mid = record old { stage = stage }
+
+    hop_as : Makes (HopReady turn) L ev acts e old n [] mid
+    hop_as = record {
+      in_step = tt;
+      right = tt;
+      turn = turn;
+      over = s.over;
+      legs = s.legs;
+      staged = λ f. staged;
+      lost = λ is. absurd (false≢true (sym g.found ∙ is));
+      children = deals_same;
+      bodies = λ f. bodies;
+      inward = record {
+        calm = λ idle. absurd (false≢true (sym g.calm ∙ idle));
+        accepted = λ r. accepted_of old (is_done_with old bytes) g;
+        http = s.inward.http;
+        lost_in = λ is. absurd (false≢true (sym g.found ∙ is));
+        decided = λ f r. s.inward.decided g.found still;
+        left = s.inward.left;
+        cut_is = λ f. cut;
+        held = λ shut. absurd (false≢true (sym (unshut_of old (is_done_with old bytes) g) ∙ shut));
+        looked = λ f r. s.inward.looked f away;
+        stays = λ f unshut ends. absurd (false≢true (sym (or_from _ _ g.unstopped g.here) ∙ ends));
+      };
+      post = record {
+        same = refl;
+        found = g.found;
+        unover = ap (λ (b : Bool). b && run_settled old.run) none;
+        on = goes mid (is_done_with mid bytes) (record {
+          may = g.may;
+          unstopped = g.unstopped;
+          here = g.here;
+          found = g.found;
+          calm = g.calm;
+          open_yet = g.open_yet;
+          unclosed = g.unclosed;
+          uncut = g.uncut;
+          undone = ap (λ (b : Bool). (marks_of old).ended && b && not (is_begun bytes)) reads ∙ no_more (marks_of old).ended (not (is_begun bytes));
+        });
+        settled = settled;
+        room = room;
+        quiet = λ gives. absurd (false≢true (sym gives ∙ given));
+      };
+    }
+
+  same_as : Makes (HopReady turn) L ev acts e old n [] old
+  same_as = record {
+    in_step = tt;
+    right = tt;
+    turn = turn;
+    over = s.over;
+    legs = s.legs;
+    staged = s.staged;
+    lost = s.lost;
+    children = deals_same;
+    bodies = s.bodies;
+    inward = s.inward;
+    post = record { same = refl; found = g.found; unover = q.unover; on = on; settled = settled; room = room; quiet = λ gives. q };
+  }
+
+  module _ (new : Conn) (readied : ReadiesHop old.stage stamp old new) where
+    staged_new : is_reading old.stage ≡ false → Staged new e s.legs
+    staged_new away = hops_staged old new stamp e s.legs (may_hop L ev acts turn e old n s q g.found on away settled room stamp clock) readied
+
+    unchanged : new ≡ old → Makes (HopReady turn) L ev acts e old n [] new
+    unchanged same = subst (λ (c : Conn). Makes (HopReady turn) L ev acts e old n [] c) (sym same) same_as
+
+    refuses : (cause : Cause) → is_reading old.stage ≡ false → is_running old.stage ≡ false → Refuses cause stamp (silenced old) new → Makes (HopReady turn) L ev acts e old n [] new
+    refuses cause away still r =
+        subst (λ (c : Conn). Makes (HopReady turn) L ev acts e old n [] c) (sym r.fault.is)
+        (hop_as (At.Finishing r.fault.text r.closes) (subst (λ (c : Conn). Staged c e s.legs) r.fault.is (staged_new away)) g.uncut tt away still refl refl refl)
+
+    starts : (hop : ℕ) (kind : ScriptKind) (request : Request) (mapped : Mapped) → is_reading old.stage ≡ false → is_running old.stage ≡ false → Starts hop kind request mapped (silenced old) new → Makes (HopReady turn) L ev acts e old n [] new
+    starts hop kind request mapped away still r =
+        subst (λ (c : Conn). Makes (HopReady turn) L ev acts e old n [] c) (sym r.is)
+        (hop_as (At.Starting r.leg r.launch request.body (nat_lt 0 hop || is_taken old.request)) (subst (λ (c : Conn). Staged c e s.legs) r.is (staged_new away)) g.uncut tt away still refl refl refl)
+
+    found_as : (hop : ℕ) (kind : ScriptKind) (request : Request) (mapped : Mapped) → is_reading old.stage ≡ false → is_running old.stage ≡ false → ScriptBy kind hop request mapped stamp (silenced old) new
+        → Makes (HopReady turn) L ev acts e old n [] new
+    found_as hop Cgi request mapped away still b = starts hop Cgi request mapped away still b
+    found_as hop Nph request mapped away still b = starts hop Nph request mapped away still b
+    found_as hop WebSocket request mapped away still b = refuses b.0 away still b.2
+
+    placed : (hop : ℕ) (request : Request) (answer : Result Mapped Cause) → is_reading old.stage ≡ false → is_running old.stage ≡ false → PlaceBy answer hop request stamp (silenced old) new → Makes (HopReady turn) L ev acts e old n [] new
+    placed hop request (Ok mapped) away still f = found_as hop f.kind request mapped away still f.by
+    placed hop request (Err cause) away still r = refuses cause away still r
+
+    by_stage : (t : Stage) → old.stage ≡ t → ReadiesHop t stamp old new → Makes (HopReady turn) L ev acts e old n [] new
+    by_stage (At.Refused cause) at r = refuses cause (ap is_reading at) (ap is_running at) r
+    by_stage (At.Unstarted hop request) at p = placed hop request p.answer (ap is_reading at) (ap is_running at) p.by
+    by_stage At.Reading at same = unchanged same
+    by_stage (At.Rejected cause bare) at same = unchanged same
+    by_stage (At.Interrupted cause) at same = unchanged same
+    by_stage (At.Starting leg launch body whole) at same = unchanged same
+    by_stage (At.Running leg) at same = unchanged same
+    by_stage (At.Finishing text closes) at same = unchanged same
+    by_stage At.Answered at same = unchanged same
+    by_stage At.Silent at same = unchanged same
+
+  pub hops_make : (moves : List Move) (new : Conn) → MakesHopReady stamp old n moves new → Makes (HopReady turn) L ev acts e old n moves new
+  hops_make moves new m =
+      subst (λ (l : List Move). Makes (HopReady turn) L ev acts e old n l new) (sym m.none) (by_stage new m.readies old.stage refl m.readies)
+
+-- what is ready of the hop is given
+module _ (L : List Item) (ev : Event) (acts : List Act) (turn : Turn) (e : Exchange) (old : Conn) (n : ℕ) (s : Standing L ev acts turn n e old) (two : 2 ≤ (site_of old).limits.head)
+    (awake : IsAwake turn) (r : HopReady turn turn e old) (moves : List Move) (new : Conn) (form : are_given (marks_of old) (acts_of moves) ≡ true) where
+  kept : (t : Stage) → old.stage ≡ t → gives_hop t ≡ false → Nothing old n moves new → Leaves Rest L ev acts e old n moves new
+  kept t at none nothing =
+      leaves_none Rest L ev acts turn e old new n moves s nothing (awake, r.quiet (ap gives_hop at ∙ none), even_free (has_room (marks_of old)) turn old.run awake (free_settled turn old.run r.settled))
+
+  by_given : (t : Stage) → old.stage ≡ t → GivesHopBy t old n moves new → Leaves Rest L ev acts e old n moves new
+  by_given (At.Finishing text closes) at by =
+      leaves_as (Within turn Quiet) Rest L ev acts e old new n moves
+      (λ t d p. (subst IsAwake (sym p.0) awake, p.2, subst (λ (x : Turn). EvenAt (has_room (marks_of new)) x new.run) (sym p.0) (even_free (has_room (marks_of new)) turn new.run awake p.1)))
+      (rest_leaves L ev acts turn e old n s two (record {
+        found = r.found;
+        unover = r.unover;
+        at = subst (λ (x : Stage). ReadyAt old e x) (sym at) tt;
+        on = λ gives. r.on;
+        none = λ u. absurd (false≢true (sym (ap is_unanswered at) ∙ u));
+      }) (free_settled turn old.run r.settled) r.on text closes at moves new by form)
+  by_given (At.Starting leg launch body whole) at by = start_leaves L ev acts turn e old n s two r.unover r.on r.settled r.room leg launch body whole at moves new by form awake
+  by_given At.Reading at none = kept At.Reading at refl none
+  by_given (At.Rejected cause bare) at none = kept (At.Rejected cause bare) at refl none
+  by_given (At.Interrupted cause) at none = kept (At.Interrupted cause) at refl none
+  by_given (At.Refused cause) at none = kept (At.Refused cause) at refl none
+  by_given (At.Unstarted hop request) at none = kept (At.Unstarted hop request) at refl none
+  by_given (At.Running leg) at none = kept (At.Running leg) at refl none
+  by_given At.Answered at none = kept At.Answered at refl none
+  by_given At.Silent at none = kept At.Silent at refl none
+
+  pub gives_hop_leave : GivesHop old n moves new → Leaves Rest L ev acts e old n moves new
+  gives_hop_leave by = by_given old.stage refl by

@@ -1,0 +1,98 @@
+-- What is known before an answer is made ready.
+use Rattle.std.proofs.Common.{◌≡◌, ◌<◌, ◌^◌, ℕ, Bool, true, false, ◌||◌, List, [], ◌∷◌, ◌++◌, map, length, Option, Some, None, refl, sym, ap, ◌∙◌, subst, append-nil}
+use Rattle.std.specs.List.{flat_map}
+use Rattle.std.proofs.lemmas.Grind.{flat_map-append}
+use Rattle.host_base.specs.declared.site.Site.{Site}
+use Rattle.host_trace.specs.declared.items.Act.{Act}
+use Rattle.host_trace.specs.declared.items.Event.{Event}
+use Rattle.host_trace.specs.declared.items.Item.{Item}
+use Rattle.host_trace.specs.declared.items.Item.TheVariants.{In, Out}
+use Rattle.host_trace.specs.First.{last_of}
+use Rattle.host_trace.specs.Kinds.{tick_secs}
+use Rattle.host_trace.specs.Projections.{child_out, last_secs}
+use Rattle.child_core.specs.View.{View}
+use Rattle.trace_model.specs.Exchange.{Exchange}
+use Rattle.trace_model.specs.Legs.{Leg as Started}
+use Rattle.exchange_request.specs.Knows.{is_looked_at}
+use Rattle.exchange_reply.specs.StepRules.{is_continued}
+use Rattle.exchange_stage.specs.declared.stage.Stage.{Stage}
+use Rattle.exchange_stage.specs.declared.stage.Stage.TheVariants as At
+use Rattle.exchange_stage.specs.Items.{is_unanswered}
+use Rattle.exchange_stage.specs.Moves.{IsShort}
+use Rattle.exchange_stage.specs.StageIs.{StageIs}
+use Rattle.exchange_stage.specs.Unanswered.{is_awaited}
+use Rattle.exchange_stage.proofs.WholeLaws.{continues_come_first, continues_stand}
+use Rattle.conn_children.specs.Children.{KnowsChildren}
+use Rattle.conn_children.specs.Step.{Turn}
+use Rattle.conn_children.proofs.KnowLaws.{tells_last}
+use Rattle.conn_core.specs.declared.conn.Conn.{Conn}
+use Rattle.conn_core.specs.Kept.{number_of, site_of}
+use Rattle.conn_core.specs.Ready.{outcome_of_run}
+use Rattle.conn_stages.specs.Staged.{MayAnswer, MayReady}
+use Rattle.conn_stages.proofs.StagedLaws.{no_last}
+use Rattle.conn_steps.specs.Standing.{AptAt, LetOn, ShortRun, Standing, ends_at}
+use Rattle.conn_steps.proofs.EndWords.{going, unclosed_of}
+use Rattle.conn_steps.proofs.StageWords.{known, more_in, stage_is}
+
+-- ---- the clock
+
+secs_none : (acts : List Act) → flat_map tick_secs (map Out acts) ≡ []
+secs_none [] = refl
+secs_none (act ∷ acts) = secs_none acts
+
+-- acts leave what it showed
+pub secs_acts : (T : List Item) (acts : List Act) → last_secs (T ++ map Out acts) ≡ last_secs T
+secs_acts T acts =
+    ap (λ (l : List ℕ). last_of l) (flat_map-append tick_secs T (map Out acts) ∙ (ap (λ (l : List ℕ). flat_map tick_secs T ++ l) (secs_none acts) ∙ append-nil (flat_map tick_secs T)))
+
+-- ---- the output
+
+short_of : (site : Site) (c : ℕ) (e : Exchange) (n : ℕ) (legs : List Started) (run : Option View) → KnowsChildren site c e false n legs run → ShortRun e run → outcome_of_run run ≡ None
+    → IsShort site c e legs
+short_of site c e n legs None k short none leg last = absurd (no_last last.before leg (sym k.runs.0 ∙ last.is))
+short_of site c e n legs (Some v) k short none leg last =
+    let known_leg : KnowsChildren site c e false n (last.before ++ leg ∷ []) (Some v) = subst (λ (ls : List Started). KnowsChildren site c e false n ls (Some v)) last.is k in
+    subst (λ (j : ℕ). length (child_out e.items j) < 2 ^ 64) (tells_last site c e n last.before leg v known_leg).number (short none)
+
+-- ---- what may be answered
+
+module _ (L : List Item) (ev : Event) (acts : List Act) (turn : Turn) (e : Exchange) (old : Conn) (n : ℕ) (s : Standing L ev acts turn n e old) (on_let : LetOn e old) (found : old.lost ≡ false)
+    (on : ends_at old e ≡ false) where
+  pub unawaited_now : old.continued ≡ false → is_awaited (site_of old) (number_of old) e ≡ false
+  unawaited_now first = go (is_unanswered old.stage) refl
+    where
+      go : (b : Bool) → is_unanswered old.stage ≡ b → is_awaited (site_of old) (number_of old) e ≡ false
+      go true is = on_let.none found is first
+      go false is =
+          continues_come_first (site_of old) (number_of old) e s.legs (is_looked_at old.request) (old.closing || old.closes) (more_in old e s.legs (s.staged found)) old.stage
+          (subst (λ (b : Bool). StageIs (site_of old) (number_of old) e s.legs b (is_looked_at old.request) (old.closing || old.closes) (more_in old e s.legs (s.staged found)) old.stage) first (stage_is old e s.legs (s.staged found))) is
+
+  pub continued_now : is_continued (site_of old) (number_of old) e ≡ true
+  continued_now =
+      continues_stand (site_of old) (number_of old) e s.legs old.continued (is_looked_at old.request) (old.closing || old.closes) (more_in old e s.legs (s.staged found)) old.stage (stage_is old e s.legs (s.staged found))
+      (λ u first. unawaited_now first)
+
+  pub may_ready : (stamp : Option ℕ) → stamp ≡ last_secs (L ++ In ev ∷ []) → MayReady old e s.legs stamp
+  may_ready stamp clock = record {
+    front = s.front;
+    staged = s.staged found;
+    next = n;
+    children = known L ev acts turn n e old s found;
+    found = found;
+    looked = on_let.read.looked found on;
+    unclosed = unclosed_of old e _ s.front (going old _ on);
+    let_on = continued_now;
+    stamp_is = clock ∙ (sym (secs_acts (L ++ In ev ∷ []) acts) ∙ ap (λ (l : List Item). last_secs l) (sym s.children.knows.items));
+  }
+
+  pub apt_at : (t : Stage) → old.stage ≡ t → AptAt old e t
+  apt_at t at = subst (λ (x : Stage). AptAt old e x) at (on_let.read.apt.found found).at
+
+  pub may_answer : (stamp : Option ℕ) → stamp ≡ last_secs (L ++ In ev ∷ []) → MayAnswer old e s.legs stamp
+  may_answer stamp clock = record {
+    may = may_ready stamp clock;
+    short = λ leg at none. short_of (site_of old) (number_of old) e n s.legs old.run (known L ev acts turn n e old s found) (apt_at (At.Running leg) at).2 none;
+    bare = λ cause at. apt_at (At.Interrupted cause) at;
+    written = λ leg at. (apt_at (At.Running leg) at).0;
+    apart = λ leg at none ticked. (apt_at (At.Running leg) at).1 none ticked;
+  }

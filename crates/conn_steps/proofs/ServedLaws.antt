@@ -1,0 +1,259 @@
+-- What is due for the child is given, and the stage stays.
+use Rattle.std.proofs.Common.{◌≡◌, ◌≤◌, ℕ, Bool, true, false, ◌&&◌, ◌||◌, List, [], ◌∷◌, ◌++◌, Option, Some, None, is_some, refl, sym, ap, ◌∙◌, subst}
+use Rattle.std.proofs.lemmas.Bool.{and_parts, false≢true, or_parts}
+use Rattle.host_trace.specs.declared.items.Act.{Act}
+use Rattle.host_trace.specs.declared.items.Event.{Event}
+use Rattle.host_trace.specs.declared.items.Item.{Item}
+use Rattle.own_traces.specs.Whose.{next_after}
+use Rattle.trace_child.specs.Words.{is_filled}
+use Rattle.child_core.specs.declared.ending.Outcome.{Outcome}
+use Rattle.child_core.specs.declared.ending.Outcome.TheVariants.{Dropped, Failed, Gone, Output, Stopped}
+use Rattle.child_core.specs.Calls.{is_settled}
+use Rattle.child_core.specs.Due.{acted, acting}
+use Rattle.child_core.specs.View.{View}
+use Rattle.child_core.proofs.MemoryLaws.{acting-due}
+use Rattle.trace_model.specs.Exchange.{Exchange}
+use Rattle.trace_model.specs.Exchanges.{has_ended}
+use Rattle.trace_model.specs.Legs.{Leg as Started}
+use Rattle.exchange_stage.specs.declared.stage.Leg.{Leg}
+use Rattle.exchange_stage.specs.declared.stage.Stage.{Stage}
+use Rattle.exchange_stage.specs.declared.stage.Stage.TheVariants as At
+use Rattle.exchange_stage.specs.Items.{ActsKeep, is_calm, is_nothing, with_acts as stage_acts}
+use Rattle.exchange_stage.specs.Rules.{IsUnended}
+use Rattle.exchange_stage.specs.StageIs.{LostIs}
+use Rattle.exchange_stage.proofs.PassLaws.{quiet_acts_keep}
+use Rattle.conn_marks.specs.View.{has_room}
+use Rattle.conn_children.specs.Children.{KnowsChildren}
+use Rattle.conn_children.specs.Step.{Turn, waiting, served}
+use Rattle.conn_children.specs.Moves.{Deals}
+use Rattle.conn_children.proofs.MoveLaws.{serves_move}
+use Rattle.conn_front.specs.Moves.{acts_of, moved}
+use Rattle.conn_core.specs.declared.conn.Conn.{Conn}
+use Rattle.conn_core.specs.Kept.{marks_of, number_of, site_of}
+use Rattle.conn_core.specs.Ready.{outcome_of_run, undrained}
+use Rattle.conn_core.specs.Reasons.{ends_with, is_done_with}
+use Rattle.conn_core.specs.Settles.{is_answered, is_over}
+use Rattle.conn_stages.specs.Staged.{Staged}
+use Rattle.conn_stages.proofs.ItemLaws.{serves_staged}
+use Rattle.conn_stages.proofs.StagedLaws.{no_last, outcome_told}
+use Rattle.conn_core.specs.Parts.{gives_all}
+use Rattle.conn_steps.specs.Standing.{CutIs, EvenAt, IsAwake, IsDecided, Makes, Quiet, QuietBy, QuietFound, RunQuiet, Standing, StaysRun, ends_at, is_early, is_left}
+use Rattle.conn_steps.proofs.EndsLaws.{Steady}
+use Rattle.conn_steps.proofs.LackLaws.{not_output}
+use Rattle.conn_steps.proofs.ServeLaws.{AreChilds, acts_of-gives, awaited_gives, bodies_gives, bytes_gives, childs_acting, moved-gives, next-childs, path_in_step, quiet_gives, right-gives, stage_gives}
+use Rattle.conn_steps.proofs.StageWords.{ended_found, ended_lost, known, known_now}
+
+-- ---- acts of the child leave what was decided of it
+
+acted_outcome : (may : Bool) (v : View) → (acted may v).outcome ≡ v.outcome
+unfolding acted
+acted_outcome may v = refl
+
+acted_output : (may : Bool) (v : View) → (acted may v).output ≡ v.output
+unfolding acted
+acted_output may v = refl
+
+acted_exited : (may : Bool) (v : View) → (acted may v).exited ≡ v.exited
+unfolding acted
+acted_exited may v = refl
+
+acted_refused : (may : Bool) (v : View) → (acted may v).refused ≡ v.refused
+unfolding acted
+acted_refused may v = refl
+
+unsettled_by : (v : View) → v.refused ≡ false → v.exited ≡ false → is_settled v ≡ false
+unsettled_by v refused exited = ap (λ (b : Bool). b || (v.exited && v.input_ended && v.output_ended)) refused ∙ ap (λ (b : Bool). b && v.input_ended && v.output_ended) exited
+
+-- ---- a connection of which nothing is due
+
+pub some_last : {X : Type 0} (xs : List X) (x : X) (ys : List X) → ys ≡ xs ++ x ∷ [] → is_filled ys ≡ true
+some_last xs x [] is = absurd (no_last xs x is)
+some_last xs x (y ∷ ys) is = refl
+
+quiet_calm : (conn : Conn) (e : Exchange) (legs : List Started) (t : Stage) → is_filled legs ≡ true → QuietBy conn e t → is_calm legs t ≡ true
+quiet_calm conn e legs At.Reading some q = refl
+quiet_calm conn e legs (At.Rejected cause bare) some q = absurd q
+quiet_calm conn e legs (At.Interrupted cause) some q = absurd q
+quiet_calm conn e legs (At.Refused cause) some q = refl
+quiet_calm conn e legs (At.Unstarted hop request) some q = refl
+quiet_calm conn e legs (At.Starting leg launch body whole) some q = absurd q
+quiet_calm conn e legs (At.Running leg) some q = ap is_nothing q.0
+quiet_calm conn e legs (At.Finishing text closes) some q = absurd q
+quiet_calm conn e legs At.Answered some q = some
+quiet_calm conn e legs At.Silent some q = refl
+
+not_out : (conn : Conn) (e : Exchange) (leg : Leg) (o : Option Outcome) → RunQuiet conn e leg o → o ≡ Some Output → ⊥
+not_out conn e leg o q is = subst (λ (p : Option Outcome). RunQuiet conn e leg p) is q
+
+-- the whole answer doesn't stand unless its stage says so
+pub quiet_unended : (L : List Item) (ev : Event) (acts : List Act) (turn : Turn) (e : Exchange) (conn : Conn) (n : ℕ) (s : Standing L ev acts turn n e conn) → conn.lost ≡ false → QuietFound e conn
+    → IsUnended (site_of conn) (number_of conn) e s.legs conn.stage
+quiet_unended L ev acts turn e conn n s found q = go conn.stage q.quiet
+  where
+    go : (t : Stage) → QuietBy conn e t → IsUnended (site_of conn) (number_of conn) e s.legs t
+    go (At.Running leg) r = λ started last der.
+        not_output (outcome_of_run conn.run) (not_out conn e leg (outcome_of_run conn.run) r.1)
+        (sym (outcome_told (site_of conn) (number_of conn) e n s.legs conn.run (known L ev acts turn n e conn s found) started last) ∙ der)
+    go At.Reading r = tt
+    go (At.Rejected cause bare) r = tt
+    go (At.Interrupted cause) r = tt
+    go (At.Refused cause) r = tt
+    go (At.Unstarted hop request) r = tt
+    go (At.Starting leg launch body whole) r = tt
+    go (At.Finishing text closes) r = absurd r
+    go At.Answered r = tt
+    go At.Silent r = tt
+
+pub quiet_goes_on : (L : List Item) (ev : Event) (acts : List Act) (turn : Turn) (e : Exchange) (conn : Conn) (n : ℕ) (s : Standing L ev acts turn n e conn) → Quiet e conn
+    → has_ended (site_of conn) (number_of conn) e ≡ false
+quiet_goes_on L ev acts turn e conn n s q = go conn.lost refl
+  where
+    go : (b : Bool) → conn.lost ≡ b → has_ended (site_of conn) (number_of conn) e ≡ false
+    go true is = ended_lost L ev acts turn n e conn s is ∙ q.unover
+    go false is = ended_found L ev acts turn n e conn s is (quiet_unended L ev acts turn e conn n s is (q.found is)) ∙ q.unover
+
+-- ---- what is due is given
+
+-- what is known then: it has ended, or nothing is due of the answer, nor of the child
+pub record Handled (turn : Turn) (e : Exchange) (conn : Conn) : Type 0 where
+  pub steady : is_over conn ≡ true → conn.lost ≡ false → (marks_of conn).shut ≡ false → Steady conn
+  pub quiet : is_over conn ≡ false → Quiet e conn
+  pub awake : IsAwake turn
+  pub even : EvenAt (has_room (marks_of conn)) turn conn.run
+
+module _ (L : List Item) (ev : Event) (acts : List Act) (e : Exchange) (old : Conn) (n : ℕ) (s : Standing L ev acts waiting n e old) (two : 2 ≤ (site_of old).limits.head)
+    (q : Quiet e old) (v : View) (run : old.run ≡ Some v) where
+  abbrev may : Bool
+  may = has_room (marks_of old)
+
+  abbrev mid : Conn
+  mid = record old { run = Some (acted may v) }
+
+  abbrev later : Exchange
+  later = moved (site_of old) (number_of old) e (gives_all (acting may v))
+
+  childs : AreChilds (acting may v)
+  childs = childs_acting may v
+
+  knows : KnowsChildren (site_of old) (number_of old) e (is_early old) n s.legs (Some v)
+  knows = subst (λ (r : Option View). KnowsChildren (site_of old) (number_of old) e (is_early old) n s.legs r) run (known_now L ev acts waiting n e old s)
+
+  some_legs : is_filled s.legs ≡ true
+  some_legs = some_last knows.runs.older knows.runs.leg s.legs knows.runs.are
+
+  keeps : ActsKeep (site_of old) (number_of old) e s.legs old.continued false (old.closing || old.closes) [] (acting may v)
+  keeps = quiet_acts_keep (site_of old) (number_of old) e s.legs old.continued false (old.closing || old.closes) [] (acting may v) two (quiet_gives (number_of old) (acting may v) childs)
+
+  lost_kept : (t : Stage) → LostIs (site_of old) (number_of old) e s.legs old.continued (old.closing || old.closes) t
+      → LostIs (site_of old) (number_of old) later s.legs old.continued (old.closing || old.closes) t
+  lost_kept t l = subst (λ (d : Exchange). LostIs (site_of old) (number_of old) d s.legs old.continued (old.closing || old.closes) t) (stage_gives (site_of old) (number_of old) e (acting may v)) (go t l)
+    where
+      go : (t : Stage) → LostIs (site_of old) (number_of old) e s.legs old.continued (old.closing || old.closes) t
+          → LostIs (site_of old) (number_of old) (stage_acts e (acting may v)) s.legs old.continued (old.closing || old.closes) t
+      go At.Answered l = keeps.kept At.Answered some_legs l
+      go At.Reading l = keeps.lost l
+      go (At.Rejected cause bare) l = keeps.lost l
+      go (At.Interrupted cause) l = keeps.lost l
+      go (At.Refused cause) l = keeps.lost l
+      go (At.Unstarted hop request) l = keeps.lost l
+      go (At.Starting leg launch body whole) l = keeps.lost l
+      go (At.Running leg) l = keeps.lost l
+      go (At.Finishing text closes) l = keeps.lost l
+      go At.Silent l = keeps.lost l
+
+  deals : Deals (site_of old) (number_of old) L ev (acts ++ acts_of (gives_all (acting may v))) later s.over (is_early old) (served may) (next_after n (acts_of (gives_all (acting may v)))) s.legs (Some (acted may v))
+  deals =
+      subst (λ (k : ℕ). Deals (site_of old) (number_of old) L ev (acts ++ acts_of (gives_all (acting may v))) later s.over (is_early old) (served may) k s.legs (Some (acted may v)))
+      (sym (ap (λ (l : List Act). next_after n l) (acts_of-gives (acting may v)) ∙ next-childs n (acting may v) childs))
+      (subst (λ (l : List Act). Deals (site_of old) (number_of old) L ev (acts ++ l) later s.over (is_early old) (served may) n s.legs (Some (acted may v))) (sym (acts_of-gives (acting may v)))
+      (subst (λ (d : Exchange). Deals (site_of old) (number_of old) L ev (acts ++ acting may v) d s.over (is_early old) (served may) n s.legs (Some (acted may v))) (sym (moved-gives (site_of old) (number_of old) e (acting may v)))
+      (serves_move (site_of old) (number_of old) L ev acts e s.over (is_early old) may n s.legs v two (quiet_goes_on L ev acts waiting e old n s q)
+      (subst (λ (r : Option View). Deals (site_of old) (number_of old) L ev acts e s.over (is_early old) waiting n s.legs r) run s.children))))
+
+  outcome_same : outcome_of_run old.run ≡ (acted may v).outcome
+  outcome_same = ap outcome_of_run run ∙ sym (acted_outcome may v)
+
+  undrained_same : undrained old.run ≡ (acted may v).output
+  undrained_same = ap undrained run ∙ sym (acted_output may v)
+
+  ends_same : ends_at mid later ≡ ends_at old e
+  ends_same = ap (λ (b : List ℕ). ends_with old (is_done_with old b)) (bytes_gives (site_of old) (number_of old) e (acting may v) childs)
+
+  run_quiet : (leg : Leg) (o : Option Outcome) → RunQuiet old e leg o → RunQuiet mid later leg o
+  run_quiet leg None r = (sym undrained_same ∙ r.0, r.1, ends_same ∙ r.2)
+  run_quiet leg (Some Output) r = r
+  run_quiet leg (Some (Failed cause)) r = ends_same ∙ r
+  run_quiet leg (Some Gone) r = ends_same ∙ r
+  run_quiet leg (Some Stopped) r = ends_same ∙ r
+  run_quiet leg (Some Dropped) r = ends_same ∙ r
+
+  quiet_at : (t : Stage) → QuietBy old e t → QuietBy mid later t
+  quiet_at (At.Running leg) r = (r.0, subst (λ (o : Option Outcome). RunQuiet mid later leg o) outcome_same (run_quiet leg (outcome_of_run old.run) r.1))
+  quiet_at At.Reading r = tt
+  quiet_at (At.Rejected cause bare) r = r
+  quiet_at (At.Interrupted cause) r = r
+  quiet_at (At.Refused cause) r = tt
+  quiet_at (At.Unstarted hop request) r = tt
+  quiet_at (At.Starting leg launch body whole) r = r
+  quiet_at (At.Finishing text closes) r = r
+  quiet_at At.Answered r = tt
+  quiet_at At.Silent r = tt
+
+  steady_then : is_over mid ≡ true → mid.lost ≡ false → (marks_of mid).shut ≡ false → Steady mid
+  steady_then over found unshut = go ((marks_of old).stopped || (marks_of old).gone) refl
+    where
+      settled : is_settled (acted may v) ≡ true
+      settled = (and_parts (is_answered old.stage) (is_settled (acted may v)) over).1
+
+      go : (b : Bool) → ((marks_of old).stopped || (marks_of old).gone) ≡ b → Steady mid
+      go false is = let both = or_parts (marks_of old).stopped (marks_of old).gone is in record { unstopped = both.0; here = both.1 }
+      go true is =
+          let stays : StaysRun (Some v) = subst (λ (r : Option View). StaysRun r) run (s.inward.stays found unshut is) in
+          absurd (false≢true (sym (unsettled_by (acted may v) (acted_refused may v ∙ stays.0) (acted_exited may v ∙ stays.1)) ∙ settled))
+
+  decided_then : IsDecided (Some v) → IsDecided (Some (acted may v))
+  decided_then d = ap (λ (o : Option Outcome). is_some o) (acted_outcome may v) ∙ d
+
+  stays_then : StaysRun (Some v) → StaysRun (Some (acted may v))
+  stays_then t = (acted_refused may v ∙ t.0, acted_exited may v ∙ t.1)
+
+  pub serves_make : Makes Handled L ev acts e old n (gives_all (acting may v)) mid
+  serves_make = record {
+    in_step = path_in_step (site_of old) (number_of old) (is_early old) may n s.legs two (acting may v) e v (acting-due may v).path knows;
+    right = right-gives (site_of old) (number_of old) e (acting may v) childs;
+    turn = served may;
+    over = s.over;
+    legs = s.legs;
+    staged = λ found.
+        subst (λ (d : Exchange). Staged mid d s.legs) (sym (moved-gives (site_of old) (number_of old) e (acting may v)))
+        (serves_staged old e s.legs may v two (s.staged found) (quiet_calm old e s.legs old.stage some_legs (q.found found).quiet) run);
+    lost = λ is. lost_kept old.stage (s.lost is);
+    children = deals;
+    bodies = λ found. bodies_gives (site_of old) (number_of old) e old.stage (acting may v) childs (s.bodies found);
+    inward = record {
+      calm = s.inward.calm;
+      accepted = s.inward.accepted;
+      http = s.inward.http;
+      lost_in = s.inward.lost_in;
+      left = λ found is. s.inward.left found (ap is_left outcome_same ∙ is);
+      decided = λ found r. decided_then (subst (λ (r : Option View). IsDecided r) run (s.inward.decided found r));
+      cut_is = λ found. subst (λ (o : Option Outcome). CutIs old.stage o old.cut) outcome_same (s.inward.cut_is found);
+      held = λ shut. decided_then (subst (λ (r : Option View). IsDecided r) run (s.inward.held shut));
+      looked = s.inward.looked;
+      stays = λ found unshut ends. stays_then (subst (λ (r : Option View). StaysRun r) run (s.inward.stays found unshut ends));
+    };
+    post = record {
+      steady = steady_then;
+      quiet = λ unover. record {
+        unover = unover;
+        found = λ found. record {
+          quiet = quiet_at old.stage (q.found found).quiet;
+          let_on = λ u first awaited.
+              let was = (q.found found).let_on u first (sym (awaited_gives (site_of old) (number_of old) e (acting may v) childs) ∙ awaited) in
+              (ends_same ∙ was.0, was.1, was.2);
+        };
+      };
+      awake = tt;
+      even = λ undecided unsettled. refl;
+    };
+  }

@@ -1,0 +1,154 @@
+-- Parts, one after the other.
+use Rattle.std.proofs.Common.{◌≡◌, ℕ, Bool, true, ◌&&◌, List, [], ◌∷◌, ◌++◌, map, refl, sym, ap, ◌∙◌, subst, append-nil, append_assoc}
+use Rattle.std.proofs.lemmas.Bool.{and_parts}
+use Rattle.host_base.specs.declared.site.Site.{Site}
+use Rattle.host_trace.specs.declared.items.Act.{Act}
+use Rattle.host_trace.specs.declared.items.Act.TheVariants.{Write}
+use Rattle.host_trace.specs.declared.items.Event.{Event}
+use Rattle.host_trace.specs.declared.items.Item.{Item}
+use Rattle.host_trace.specs.declared.items.Item.TheVariants.{Out}
+use Rattle.own_traces.specs.Whose.{next_after}
+use Rattle.own_traces.proofs.BlockLaws.{next_after-append}
+use Rattle.trace_model.specs.Exchange.{Exchange, all_of, continue_text, pushed}
+use Rattle.trace_model.specs.Exchanges.{following}
+use Rattle.conn_marks.specs.View.{View as Marks, noted}
+use Rattle.conn_marks.specs.Form.{are_given, given_all, is_allowed}
+use Rattle.conn_marks.specs.Knows.{Knows as KnowsMarks}
+use Rattle.conn_marks.proofs.KnowsLaws.{given_all-append, given_all-number, known_all}
+use Rattle.conn_children.specs.Step.{Turn}
+use Rattle.conn_front.specs.Moves.{AreInStep, Move, acts_of, continues, gives, moved, settles}
+use Rattle.conn_front.proofs.MoveLaws.{acts_of-append, moved-append}
+use Rattle.conn_core.specs.declared.conn.Conn.{Conn}
+use Rattle.conn_core.specs.Kept.{marks_of, number_of, site_of}
+use Rattle.conn_core.specs.Parts.{Deed, Nothing, Part, Then}
+use Rattle.conn_steps.specs.Standing.{AreRight, Claim, Leaves, Makes, Standing}
+
+-- ---- moves
+
+pub in_step_together : (site : Site) (c : ℕ) (e : Exchange) (xs ys : List Move) → AreInStep site c e xs → AreInStep site c (moved site c e xs) ys → AreInStep site c e (xs ++ ys)
+in_step_together site c e [] ys a b = b
+in_step_together site c e (gives act ∷ xs) ys a b = (a.0, in_step_together site c (pushed e (Out act)) xs ys a.1 b)
+in_step_together site c e (continues d ∷ xs) ys a b = (a.0, a.1, in_step_together site c (pushed e (Out (Write d continue_text))) xs ys a.2 b)
+in_step_together site c e (settles ending ∷ xs) ys a b = (a.0, in_step_together site c (following site c e) xs ys a.1 b)
+
+pub right_together : (site : Site) (c : ℕ) (e : Exchange) (xs ys : List Move) → AreRight site c e xs → AreRight site c (moved site c e xs) ys → AreRight site c e (xs ++ ys)
+right_together site c e [] ys a b = b
+right_together site c e (gives act ∷ xs) ys a b = (a.0, a.1, right_together site c (pushed e (Out act)) xs ys a.2 b)
+right_together site c e (continues d ∷ xs) ys a b = (a.0, right_together site c (pushed e (Out (Write d continue_text))) xs ys a.1 b)
+right_together site c e (settles ending ∷ xs) ys a b = (a.0, right_together site c (following site c e) xs ys a.1 b)
+
+pushed_all : (e : Exchange) (x : Item) (rest : List Item) → all_of (pushed e x) ++ rest ≡ all_of e ++ x ∷ rest
+pushed_all e x rest = ap (λ (l : List Item). l ++ rest) (sym (append_assoc e.before e.items (x ∷ []))) ∙ append_assoc (all_of e) (x ∷ []) rest
+
+pub all_moved : (site : Site) (c : ℕ) (e : Exchange) (moves : List Move) → all_of (moved site c e moves) ≡ all_of e ++ map Out (acts_of moves)
+all_moved site c e [] = sym (append-nil (all_of e))
+all_moved site c e (gives act ∷ moves) = all_moved site c (pushed e (Out act)) moves ∙ pushed_all e (Out act) (map Out (acts_of moves))
+all_moved site c e (continues d ∷ moves) =
+    all_moved site c (pushed e (Out (Write d continue_text))) moves ∙ pushed_all e (Out (Write d continue_text)) (map Out (acts_of moves))
+all_moved site c e (settles ending ∷ moves) =
+    all_moved site c (following site c e) moves ∙ ap (λ (l : List Item). l ++ map Out (acts_of moves)) (append-nil (all_of e))
+
+given_parts : (m : Marks) (xs ys : List Act) → are_given m (xs ++ ys) ≡ true → (are_given m xs ≡ true) × (are_given (given_all m xs) ys ≡ true)
+given_parts m [] ys f = (refl, f)
+given_parts m (x ∷ xs) ys f =
+    let parts = and_parts (is_allowed m x) (are_given (noted m (Out x)) (xs ++ ys)) f in
+    let rest = given_parts (noted m (Out x)) xs ys parts.1 in
+    (ap (λ (b : Bool). b && are_given (noted m (Out x)) xs) parts.0 ∙ rest.0, rest.1)
+
+-- the acts of both parts are in form, each from the marks before it
+pub form_parts : (m : Marks) (xs ys : List Move) → are_given m (acts_of (xs ++ ys)) ≡ true → (are_given m (acts_of xs) ≡ true) × (are_given (given_all m (acts_of xs)) (acts_of ys) ≡ true)
+form_parts m xs ys f = given_parts m (acts_of xs) (acts_of ys) (subst (λ (l : List Act). are_given m l ≡ true) (acts_of-append xs ys) f)
+
+-- ---- parts
+
+pub leaves_then : (Mid Post : Claim) (L : List Item) (ev : Event) (acts : List Act) (e : Exchange) (old mid new : Conn) (n : ℕ) (xs ys : List Move) → (one : Leaves Mid L ev acts e old n xs mid)
+    → Leaves Post L ev (acts ++ acts_of xs) (moved (site_of old) (number_of old) e xs) mid (next_after n (acts_of xs)) ys new → Leaves Post L ev acts e old n (xs ++ ys) new
+leaves_then Mid Post L ev acts e old mid new n xs ys one two =
+    let c_is : number_of mid ≡ number_of old = ap (λ (m : Marks). m.c) one.marks ∙ given_all-number (marks_of old) (acts_of xs) in
+    let d : Exchange = moved (site_of old) (number_of old) e xs in
+    let moved_is : moved (site_of mid) (number_of mid) d ys ≡ moved (site_of old) (number_of old) e (xs ++ ys) =
+    ap (λ (t : Site). moved t (number_of mid) d ys) one.site ∙ (ap (λ (k : ℕ). moved (site_of old) k d ys) c_is ∙ sym (moved-append (site_of old) (number_of old) e xs ys)) in
+    let acts_are : acts_of xs ++ acts_of ys ≡ acts_of (xs ++ ys) = sym (acts_of-append xs ys) in
+    let all_acts : (acts ++ acts_of xs) ++ acts_of ys ≡ acts ++ acts_of (xs ++ ys) = append_assoc acts (acts_of xs) (acts_of ys) ∙ ap (λ (l : List Act). acts ++ l) acts_are in
+    let next_is : next_after (next_after n (acts_of xs)) (acts_of ys) ≡ next_after n (acts_of (xs ++ ys)) =
+    sym (next_after-append n (acts_of xs) (acts_of ys)) ∙ ap (λ (l : List Act). next_after n l) acts_are in
+    record {
+      site = two.site ∙ one.site;
+      marks = two.marks ∙ (ap (λ (m : Marks). given_all m (acts_of ys)) one.marks ∙ (sym (given_all-append (marks_of old) (acts_of xs) (acts_of ys)) ∙ ap (λ (l : List Act). given_all (marks_of old) l) acts_are));
+      in_step = in_step_together (site_of old) (number_of old) e xs ys one.in_step
+          (subst (λ (k : ℕ). AreInStep (site_of old) k d ys) c_is (subst (λ (t : Site). AreInStep t (number_of mid) d ys) one.site two.in_step));
+      right = right_together (site_of old) (number_of old) e xs ys one.right
+          (subst (λ (k : ℕ). AreRight (site_of old) k d ys) c_is (subst (λ (t : Site). AreRight t (number_of mid) d ys) one.site two.right));
+      turn = two.turn;
+      standing = subst (λ (f : Exchange). Standing L ev (acts ++ acts_of (xs ++ ys)) two.turn (next_after n (acts_of (xs ++ ys))) f new) moved_is
+          (subst (λ (k : ℕ). Standing L ev (acts ++ acts_of (xs ++ ys)) two.turn k (moved (site_of mid) (number_of mid) d ys) new) next_is
+          (subst (λ (l : List Act). Standing L ev l two.turn (next_after (next_after n (acts_of xs)) (acts_of ys)) (moved (site_of mid) (number_of mid) d ys) new) all_acts two.standing));
+      post = subst (λ (f : Exchange). Post two.turn f new) moved_is two.post;
+    }
+
+pub leaves_made : (By : Deed) (Post : Claim) (L : List Item) (ev : Event) (acts : List Act) (turn : Turn) (e : Exchange) (old new : Conn) (n : ℕ) (moves : List Move)
+    → (s : Standing L ev acts turn n e old) → Part By old n moves new → are_given (marks_of old) (acts_of moves) ≡ true → Makes Post L ev acts e old n moves new
+    → Leaves Post L ev acts e old n moves new
+leaves_made By Post L ev acts turn e old new n moves s p form m =
+    let marks : KnowsMarks (given_all (marks_of old) (acts_of moves)) (all_of e ++ map Out (acts_of moves)) = known_all (marks_of old) (all_of e) (acts_of moves) s.marks form in
+    record {
+      site = p.site;
+      marks = p.marks;
+      in_step = m.in_step;
+      right = m.right;
+      turn = m.turn;
+      standing = record {
+        over = m.over;
+        legs = m.legs;
+        front = (p.leads e s.front m.in_step).0;
+        marks = subst (λ (l : List Item). KnowsMarks (marks_of new) l) (sym (all_moved (site_of old) (number_of old) e moves))
+            (subst (λ (v : Marks). KnowsMarks v (all_of e ++ map Out (acts_of moves))) (sym p.marks) marks);
+        staged = m.staged;
+        lost = m.lost;
+        children = m.children;
+        bodies = m.bodies;
+        inward = m.inward;
+      };
+      post = m.post;
+    }
+
+pub leaves_none : (Post : Claim) (L : List Item) (ev : Event) (acts : List Act) (turn : Turn) (e : Exchange) (old new : Conn) (n : ℕ) (moves : List Move)
+    → Standing L ev acts turn n e old → Nothing old n moves new → Post turn e old → Leaves Post L ev acts e old n moves new
+leaves_none Post L ev acts turn e old new n moves s none post =
+    let here : Leaves Post L ev acts e old n [] old = record {
+      site = refl;
+      marks = refl;
+      in_step = tt;
+      right = tt;
+      turn = turn;
+      standing = subst (λ (l : List Act). Standing L ev l turn n e old) (sym (append-nil acts)) s;
+      post = post;
+    } in
+    subst (λ (c : Conn). Leaves Post L ev acts e old n moves c) (sym none.same) (subst (λ (l : List Move). Leaves Post L ev acts e old n l old) (sym none.none) here)
+
+-- Where the first part leads to what the second one wants, both lead on.
+pub then_leaves : (First Later : Deed) (Mid Post : Claim) (L : List Item) (ev : Event) (acts : List Act) (e : Exchange) (old new : Conn) (n : ℕ) (moves : List Move)
+    → Then First Later old n moves new → are_given (marks_of old) (acts_of moves) ≡ true
+    → ((xs : List Move) (mid : Conn) → First old n xs mid → are_given (marks_of old) (acts_of xs) ≡ true → Leaves Mid L ev acts e old n xs mid)
+    → ((acts' : List Act) (turn : Turn) (e' : Exchange) (mid : Conn) (n' : ℕ) (ys : List Move) → Standing L ev acts' turn n' e' mid → Mid turn e' mid → site_of mid ≡ site_of old
+    → Later mid n' ys new → are_given (marks_of mid) (acts_of ys) ≡ true → Leaves Post L ev acts' e' mid n' ys new)
+    → Leaves Post L ev acts e old n moves new
+then_leaves First Later Mid Post L ev acts e old new n moves w form one two =
+    let forms = form_parts (marks_of old) w.sooner w.later (subst (λ (l : List Move). are_given (marks_of old) (acts_of l) ≡ true) w.are form) in
+    let first : Leaves Mid L ev acts e old n w.sooner w.mid = one w.sooner w.mid w.first forms.0 in
+    let second = two (acts ++ acts_of w.sooner) first.turn (moved (site_of old) (number_of old) e w.sooner) w.mid (next_after n (acts_of w.sooner)) w.later first.standing first.post first.site w.second
+    (subst (λ (m : Marks). are_given m (acts_of w.later) ≡ true) (sym first.marks) forms.1) in
+    subst (λ (l : List Move). Leaves Post L ev acts e old n l new) (sym w.are) (leaves_then Mid Post L ev acts e old w.mid new n w.sooner w.later first second)
+
+-- What is said where it is done may be said otherwise.
+pub leaves_as : (One Other : Claim) (L : List Item) (ev : Event) (acts : List Act) (e : Exchange) (old new : Conn) (n : ℕ) (moves : List Move) → ((t : Turn) (d : Exchange) → One t d new → Other t d new)
+    → Leaves One L ev acts e old n moves new → Leaves Other L ev acts e old n moves new
+leaves_as One Other L ev acts e old new n moves turns l = record {
+  site = l.site;
+  marks = l.marks;
+  in_step = l.in_step;
+  right = l.right;
+  turn = l.turn;
+  standing = l.standing;
+  post = turns l.turn (moved (site_of old) (number_of old) e moves) l.post;
+}
