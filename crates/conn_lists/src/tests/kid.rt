@@ -1,0 +1,161 @@
+// A child by the rules: what happened to it, and what is due.
+use super::roles::{Role, Says};
+use super::site::{LINGER_TICKS, OUTPUT_LIMIT, RUN_TICKS};
+use host_base::Cause;
+
+// What decides a run.
+#[derive(Clone, Copy, PartialEq, Eq)]
+pub enum By {
+    // Its output ended.
+    End,
+    Failed(Cause),
+    // Nobody is left to answer.
+    Nobody,
+}
+
+#[derive(Clone, Copy)]
+pub struct Kid {
+    pub number: u64,
+    pub hop: usize,
+    pub started: bool,
+    // It could not be started.
+    pub refused: bool,
+    pub fed: usize,
+    pub taken: usize,
+    pub input_over: bool,
+    pub heard: usize,
+    pub output_over: bool,
+    pub exited: bool,
+    pub killed: bool,
+    pub asked: bool,
+    // Ticks since its Start, and since its output ended.
+    pub ticks: u32,
+    pub late: u32,
+    // A Tick came after its header.
+    pub ticked: bool,
+    pub by: Option<By>,
+    // Its connection or the server ended after it was decided.
+    pub alone: bool,
+}
+
+impl Kid {
+    pub fn new(number: u64, hop: usize) -> Self {
+        Kid {
+            number,
+            hop,
+            started: false,
+            refused: false,
+            fed: 0,
+            taken: 0,
+            input_over: false,
+            heard: 0,
+            output_over: false,
+            exited: false,
+            killed: false,
+            asked: false,
+            ticks: 0,
+            late: 0,
+            ticked: false,
+            by: None,
+            alone: false,
+        }
+    }
+
+    // The first that decides it does.
+    pub fn decide(&mut self, by: By) {
+        if self.by.is_none() {
+            self.by = Some(by);
+        }
+    }
+
+    pub fn leave(&mut self) {
+        self.decide(By::Nobody);
+        self.alone = true;
+    }
+
+    pub fn hear_output(&mut self, count: usize) {
+        self.asked = false;
+        self.heard = self.heard.saturating_add(count);
+        if self.heard > OUTPUT_LIMIT {
+            self.decide(By::Failed(Cause::OutputTooLarge));
+        }
+    }
+
+    pub fn hear_end(&mut self, by: By) {
+        self.asked = false;
+        self.output_over = true;
+        self.decide(by);
+    }
+
+    // `head`: how long the header of its output is.
+    pub fn tick(&mut self, head: usize) {
+        self.ticks = self.ticks.saturating_add(1);
+        if self.by == Some(By::End) {
+            self.late = self.late.saturating_add(1);
+        }
+        if self.ticks == RUN_TICKS {
+            self.decide(By::Failed(Cause::RunTime));
+        }
+        self.ticked |= self.heard > 0 && self.heard >= head;
+    }
+
+    pub fn is_settled(&self) -> bool {
+        self.refused || self.exited && self.input_over && self.output_over
+    }
+
+    fn is_given_up(&self) -> bool {
+        match self.by {
+            None => false,
+            Some(By::End) => self.late >= LINGER_TICKS || self.alone,
+            Some(_) => true,
+        }
+    }
+
+    fn is_cut_off(&self) -> bool {
+        match self.by {
+            None | Some(By::End) => false,
+            Some(_) => true,
+        }
+    }
+
+    // How much is to be fed, of so much that came of the body.
+    pub fn feed_due(&self, came: usize) -> usize {
+        let open = self.started && self.by.is_none() && !self.exited && !self.input_over;
+        if open && self.taken == self.fed {
+            came.saturating_sub(self.fed).min(65_536)
+        } else {
+            0
+        }
+    }
+
+    pub fn must_end_input(&self, came: usize, whole: bool) -> bool {
+        let fed = whole && self.fed == came && !self.exited;
+        self.started && !self.input_over && (self.by.is_some() || fed)
+    }
+
+    pub fn must_kill(&self) -> bool {
+        self.started && !self.exited && !self.killed && self.is_given_up()
+    }
+
+    pub fn must_release(&self) -> bool {
+        self.started && self.exited && !self.output_over && (self.is_cut_off() || self.killed)
+    }
+
+    pub fn must_ask(&self, room: bool) -> bool {
+        let open = self.started && self.by.is_none() && !self.killed && !self.output_over;
+        open && !self.asked && room
+    }
+}
+
+// What the output means as far as it was heard, where it ends there.
+pub fn meaning(role: &Role, heard: usize) -> Says {
+    if heard == 0 {
+        Says::Fault(Cause::NoOutput)
+    } else if role.nph || heard >= role.head {
+        role.says
+    } else if heard < 8192 {
+        Says::Fault(Cause::HeaderIncomplete)
+    } else {
+        Says::Fault(Cause::HeaderTooLarge)
+    }
+}
