@@ -1,11 +1,13 @@
 #!/usr/bin/env bash
 # Drives the built program with children that are hard on a host: they write and never read, read slowly, close their
-# output and live on, leave a grandchild behind, or are killed. After each nothing of it may be left.
+# output and live on, leave a grandchild behind, or are killed. In each case no process of the server's is left, running
+# or as a zombie, and it has no more threads, descriptors and memory at once than one child needs.
 . "$(dirname "$0")/common.sh"
-command -v pgrep >/dev/null || {
-    echo 'skipped: no pgrep'
+command -v python3 >/dev/null || {
+    echo 'skipped: no python3'
     exit 0
 }
+watch=$root/tests/watch.py
 
 script() {
     printf '#!/bin/sh\n%s\n' "$2" >"$1"
@@ -14,16 +16,34 @@ script() {
 
 printf 'GET /x HTTP/1.1\r\nHost: a\r\nConnection: close\r\n\r\n' >request
 
-# Whether a process is there, and no zombie.
-lives() {
-    local state
-    state=$(sed 's/.*) \(.\) .*/\1/' "/proc/$1/stat" 2>/dev/null) && [ -n "$state" ] && [ "$state" != Z ]
+# What is kept of an output, 16 MiB, and 4 MiB, in KiB.
+most_memory=$(((16 + 4) * 1024))
+
+# Three streams and two pipes, of which a start has both ends for a moment, and the folder that is looked at.
+most_descriptors=8
+
+# The loop, the pump of standard input, and the two of a child.
+most_threads=4
+
+# Runs a command and watches it, on the request; keeps what was written.
+watched() {
+    python3 "$watch" seen 60 "$@" <request >out 2>err
+    read -r status threads descriptors memory left <seen
 }
 
-# Runs a script once, with a time limit, and keeps what was written and the status.
 run() {
-    timeout 60 "$program" once "/x=$folder/$1" <request >out 2>err
-    status=$?
+    watched "$program" once "/x=$folder/$1"
+}
+
+# What the server used, and that it left nothing but perhaps processes of this name, which are not its own children.
+used() {
+    local name=$1 other=${2:-}
+    local own=$left
+    [ -z "$other" ] || own=$(printf '%s\n' $left | grep -vx "$other")
+    if [ -n "$own" ]; then bad "$name: left $own"; else ok; fi
+    if [ "$threads" -le "$most_threads" ]; then ok; else bad "$name: $threads threads"; fi
+    if [ "$descriptors" -le "$most_descriptors" ]; then ok; else bad "$name: $descriptors descriptors"; fi
+    if [ "$memory" -lt "$most_memory" ]; then ok; else bad "$name: $memory KiB of memory"; fi
 }
 
 # The first line of what was written, and the status.
@@ -38,46 +58,18 @@ gave() {
     fi
 }
 
-# No process whose command line has this word is left.
-none_left() {
-    local name=$1 word=$2 pid
-    for pid in $(pgrep -f "$folder/$word"); do
-        if [ "$pid" != $$ ] && lives "$pid"; then
-            bad "$name: process $pid is left"
-            kill -KILL "$pid"
-            return
-        fi
-    done
-    ok
-}
-
-# ---- 64 MiB, more than the limit of 16 MiB: nothing is answered, and memory stays below the limit and 4 MiB
+# ---- 64 MiB, more than the limit of 16 MiB: nothing is answered
 script much 'printf "Content-Type: text/plain\n\n"
 exec head -c 67108864 /dev/zero'
-timeout 60 "$program" once "/x=$folder/much" <request >out 2>err &
-server=$!
-most=0
-while lives "$server"; do
-    host=$(pgrep -P "$server" -f 'cgihost once' || echo "$server")
-    for pid in $host; do
-        peak=$(sed -n 's/^VmHWM:[^0-9]*\([0-9]*\) kB/\1/p' "/proc/$pid/status" 2>/dev/null)
-        [ -n "$peak" ] && [ "$peak" -gt "$most" ] && most=$peak
-    done
-done
-wait "$server"
-status=$?
-if [ "$status" = 0 ] && [ ! -s out ] && [ "$most" -lt $(((16 + 4) * 1024)) ]; then
-    ok
-else
-    bad "64 MiB: status $status, $(wc -c <out) bytes written, $most KiB of memory"
-fi
-none_left '64 MiB' much
+run much
+if [ "$status" = 0 ] && [ ! -s out ]; then ok; else bad "64 MiB: status $status, $(wc -c <out) bytes written"; fi
+used '64 MiB'
 
 # ---- a program that reads nothing and writes
 script deaf 'printf "Content-Type: text/plain\n\nhi\n"'
 run deaf
 gave 'a program that reads nothing' 'HTTP/1.1 200 OK'
-none_left 'a program that reads nothing' deaf
+used 'a program that reads nothing'
 
 # ---- one that reads slowly
 script slow 'sleep 0.3
@@ -86,7 +78,7 @@ sleep 0.3
 printf "Content-Type: text/plain\n\nhi\n"'
 run slow
 gave 'a program that reads slowly' 'HTTP/1.1 200 OK'
-none_left 'a program that reads slowly' slow
+used 'a program that reads slowly'
 
 # ---- one that closes its output and lives on: it is waited for
 script lingers 'printf "Content-Type: text/plain\n\nhi\n"
@@ -97,58 +89,63 @@ run lingers
 took=$((($(date +%s%N) - begun) / 1000000))
 gave 'a program that closes its output and lives on' 'HTTP/1.1 200 OK'
 if [ "$took" -ge 900 ]; then ok; else bad "it was not waited for: $took ms"; fi
-none_left 'a program that closes its output and lives on' lingers
+used 'a program that closes its output and lives on'
 
-# ---- one that leaves a grandchild with its pipe open: its output ends with the grandchild
+# ---- one that leaves a grandchild with its pipe open: its output ends with the grandchild, which is not the server's
 script leaves 'printf "Content-Type: text/plain\n\nhi\n"
 sleep 1 &
 exit 0'
+begun=$(date +%s%N)
 run leaves
+took=$((($(date +%s%N) - begun) / 1000000))
 gave 'a grandchild with the pipe open' 'HTTP/1.1 200 OK'
-none_left 'a grandchild with the pipe open' leaves
+if [ "$took" -ge 900 ]; then ok; else bad "its output ended before it: $took ms"; fi
+used 'a grandchild with the pipe open' sleep
 
-# ---- one that is killed from outside: what it wrote stands
+# ---- one that kills itself, and one that is killed from outside: what they wrote stands
 script killed 'printf "Content-Type: text/plain\n\nhi\n"
 kill -KILL $$'
 run killed
-gave 'a program that is killed' 'HTTP/1.1 200 OK'
-none_left 'a program that is killed' killed
+gave 'a program that kills itself' 'HTTP/1.1 200 OK'
+used 'a program that kills itself'
 
-# ---- threads and descriptors of the server while a child runs: three streams, two pipes, and a pump each beside
-# standard input's
-script waits 'sleep 1
-printf "Content-Type: text/plain\n\nhi\n"'
-"$program" once "/x=$folder/waits" <request >out 2>err &
-server=$!
-sleep 0.5
-threads=$(ls "/proc/$server/task" | wc -l)
-descriptors=$(ls "/proc/$server/fd" | wc -l)
-wait "$server"
-status=$?
-gave 'a program that waits' 'HTTP/1.1 200 OK'
-if [ "$threads" -le 4 ]; then ok; else bad "$threads threads"; fi
-if [ "$descriptors" -le 6 ]; then ok; else bad "$descriptors descriptors"; fi
+script victim 'printf "Content-Type: text/plain\n\nhi\n"
+echo $$ >victim.pid
+exec sleep 30'
+kill_victim() {
+    local _
+    for _ in $(seq 500); do
+        [ -s victim.pid ] && break
+        sleep 0.01
+    done
+    kill -KILL "$(cat victim.pid)"
+}
+kill_victim &
+begun=$(date +%s%N)
+run victim
+wait $!
+took=$((($(date +%s%N) - begun) / 1000000))
+gave 'a program that is killed from outside' 'HTTP/1.1 200 OK'
+if [ "$took" -lt 20000 ]; then ok; else bad "it was not killed: $took ms"; fi
+used 'a program that is killed from outside'
 
 # ---- 200 runs one after the other, and 16 at once
 script small 'printf "Content-Type: text/plain\n\nhi\n"'
-good=0
-for _ in $(seq 200); do
-    run small
-    [ "$status" = 0 ] && [ "$(tail -n 1 out)" = hi ] && good=$((good + 1))
-done
-if [ "$good" = 200 ]; then ok; else bad "200 runs: $good were answered"; fi
-pids=()
-for at in $(seq 16); do
-    timeout 60 "$program" once "/x=$folder/small" <request >"out.$at" 2>/dev/null &
-    pids+=($!)
-done
-good=0
-for at in $(seq 16); do
-    wait "${pids[$((at - 1))]}" && [ "$(tail -n 1 "out.$at")" = hi ] && good=$((good + 1))
-done
-if [ "$good" = 16 ]; then ok; else bad "16 at once: $good were answered"; fi
-none_left 'many runs' small
+script serial 'for at in $(seq 200); do
+    "$1" once "/x=$2" <request || exit
+done'
+watched ./serial "$program" "$folder/small"
+good=$(grep -cx hi out)
+if [ "$status" = 0 ] && [ "$good" = 200 ]; then ok; else bad "200 runs: status $status, $good were answered"; fi
+if [ -z "$left" ]; then ok; else bad "200 runs: left $left"; fi
 
-none_left 'all of them' ''
+script parallel 'for at in $(seq 16); do
+    "$1" once "/x=$2" <request >"out.$at" &
+done
+wait'
+watched ./parallel "$program" "$folder/small"
+good=$(cat out.* | grep -cx hi)
+if [ "$status" = 0 ] && [ "$good" = 16 ]; then ok; else bad "16 at once: status $status, $good were answered"; fi
+if [ -z "$left" ]; then ok; else bad "16 at once: left $left"; fi
 
 count

@@ -45,12 +45,13 @@ module _ {K : Type 0} where
       (h.0 ∙ g.number, sym (ap (λ w. w.wanted) q) ∙ h.1, h.2, h.3, stays_two tells [] r m s g h.4)
   due_two tells r m s (ChildBroken k) g q h =
       (h.0 ∙ g.number, sym (ap (λ w. w.wanted) q) ∙ h.1, h.2, h.3, stays_two tells [] r m s g h.4)
-  due_two tells r m s (Took k n) g q h = (h.0 ∙ g.number, h.1, stays_two tells [] r m s g h.2)
+  due_two tells r m s (Took k n) g q h = (h.0 ∙ g.number, h.1, h.2, stays_two tells [] r m s g h.3)
   due_two tells r m s (InputGone k) g q h =
       (h.0 ∙ g.number, sym (ap (λ w. w.input_ended) q) ∙ h.1, h.2, stays_two tells [] r m s g h.3)
   due_two tells r m s (Exited k) g q h =
       (h.0 ∙ g.number, sym (ap (λ w. w.exited) q) ∙ h.1, h.2, stays_two tells [] r m s g h.3)
-  due_two tells r m s (NoRoom c) g q h = (h.0 ∙ g.connection, stays_two tells [] r m s g h.1)
+  due_two tells r m s (NoRoom c) g q h =
+      (h.0 ∙ g.connection, sym (ap (λ w. w.wanted) q) ∙ h.1, stays_two tells [] r m s g h.2)
   due_two tells r m s (Accepted p) g q h = absurd h
   due_two tells r m s (ClientBytes c b) g q h = absurd h
   due_two tells r m s (ClientEof c) g q h = absurd h

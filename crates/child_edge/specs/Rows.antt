@@ -7,7 +7,7 @@ use Rattle.host_trace.specs.declared.items.Event.TheVariants.{ChildBytes, ChildE
 use Rattle.pipe_pump.specs.declared.ends.PumpEnd.{PumpEnd}
 use Rattle.pipe_pump.specs.declared.ends.PumpEnd.TheVariants.{AtEnd}
 use Rattle.pipe_pump.specs.declared.tap.Tap.{Tap}
-use Rattle.pipe_pump.specs.Rings.{IsRingOf, handed_up, standing, is_finished, fed}
+use Rattle.pipe_pump.specs.Rings.{IsRingOf, handed_up, standing, is_finished, fed, is_open, places, known_places}
 use Rattle.child_edge.specs.Kids.{KidTells, SameKid, is_failed}
 use Rattle.child_edge.specs.declared.row.Row.{Row}
 
@@ -141,15 +141,21 @@ module _ {K : Type 0} where
     pub no_gone : has_gone s ≡ false
     pub no_exit : has_exit s ≡ false
 
+  -- what was told to be taken left the ring, as far as this end knows: what still stands there was put behind it. Once
+  -- the input was closed, its pump came to the end
+  pub record HasLeft (tells : K → KidTells) (r : Row K) : Type 0 where
+    pub behind : is_open r.feeder ≡ true → r.told + places r.feeder ≤ r.put + known_places r.feeder
+    pub all : is_open r.feeder ≡ false → (tells r.kid).in_end ≡ Some AtEnd
+
   -- the event is of this child and its cause, besides what it does to the row
   abbrev pub IsDue : (K → KidTells) → Row K → Row K → Event → Type 0
   IsDue tells r s (ChildBytes k bytes) = (k ≡ r.k) × (r.wanted ≡ true) × (0 < length bytes) × (length bytes ≤ 65536) × Stays tells bytes r s
   IsDue tells r s (ChildEof k) = (k ≡ r.k) × (r.wanted ≡ true) × ((tells s.kid).out_end ≡ Some AtEnd) × IsEmptied s.tap × Stays tells [] r s
   IsDue tells r s (ChildBroken k) = (k ≡ r.k) × (r.wanted ≡ true) × (has_failed (tells s.kid).out_end ≡ true) × IsEmptied s.tap × Stays tells [] r s
-  IsDue tells r s (Took k n) = (k ≡ r.k) × (0 < n) × Stays tells [] r s
+  IsDue tells r s (Took k n) = (k ≡ r.k) × (0 < n) × HasLeft tells s × Stays tells [] r s
   IsDue tells r s (InputGone k) = (k ≡ r.k) × (r.input_ended ≡ false) × (has_failed (tells s.kid).in_end ≡ true) × Stays tells [] r s
   IsDue tells r s (Exited k) = (k ≡ r.k) × (r.exited ≡ false) × ((tells s.kid).reaped ≡ true) × Stays tells [] r s
-  IsDue tells r s (NoRoom c) = (c ≡ r.c) × Stays tells [] r s
+  IsDue tells r s (NoRoom c) = (c ≡ r.c) × (r.wanted ≡ true) × Stays tells [] r s
   IsDue tells r s _ = ⊥
 
   -- the row gave the event

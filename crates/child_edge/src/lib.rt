@@ -7,10 +7,12 @@ mod kid;
 mod round;
 mod row;
 mod set;
+mod starts;
 
 pub use kid::{Kid, Reap, SpawnFault, Spawner};
 pub use row::Row;
 pub use set::ChildSet;
+pub use starts::StartCounts;
 
 #[cfg(test)]
 mod tests;

@@ -2,7 +2,8 @@
 ghost use Rattle.std.specs.Prelude.{◌≡◌, ◌++◌, ◌<◌, ◌≤◌, ◌+◌, drop, [], true, false, Some, None, length, IfOk, IfSome, IsNone, OnErr, OnOk, is_ok, if◌then◌else◌};
 ghost use Rattle.child_edge.specs.Rows.{IsSound, IsQuiet, Says, Stays, IsAsked, SameMarks, Changes, Releases, want_marks, end_marks, fed_all, has_gone, has_exit, HasNothing, HasNoOutput, Feeds, is_settled, IsNewRow, Looked, marks};
 ghost use Rattle.child_edge.specs.Kids.{IsOpenKid};
-ghost use Rattle.pipe_pump.specs.Rings.{handed_up, standing, IsRingOf, SameTap, is_finished, is_open, fed, IsOtherEnd};
+ghost use Rattle.pipe_pump.specs.Rings.{handed_up, standing, IsRingOf, SameTap, is_finished, is_open, fed, places, known_places, IsOtherEnd};
+ghost use Rattle.pipe_pump.specs.declared.ends.PumpEnd.TheVariants.{AtEnd};
 ghost use Rattle.host_base.specs.Outsides.{Rose};
 
 use super::{Kid, Reap};
@@ -294,7 +295,10 @@ impl<K: Kid> Row<K> {
     // How many of the bytes that were put still stand in the ring, as far as this end knows.
     fn left(&mut self) -> u64
         requires { IsSound K.tells self.old }
-        ensures { Looked K.tells self.old self.new }
+        ensures same { Looked K.tells self.old self.new }
+        ensures open { is_open self.new.feeder ≡ true → result + known_places self.new.feeder ≡ places self.new.feeder }
+        ensures ended { is_open self.new.feeder ≡ false → result + self.new.told < self.new.put → (K.tells self.new.kid).in_end ≡ Some AtEnd }
+        ensures counts { (self.new.told ≡ self.old.told) × (self.new.put ≡ self.old.put) }
     {
         if self.feeder.is_open() {
             return self.feeder.left() as u64;

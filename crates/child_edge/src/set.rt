@@ -2,9 +2,10 @@
 ghost use Rattle.std.specs.Prelude.{◌≡◌, ◌+◌, ◌≤◌, ◌<◌, ◌++◌, ◌∷◌, [], ◌==◌, nat_lt, count_by, IfOk, OnOk, OnErr, IfSome, IsNone, is_ok, if◌then◌else◌};
 ghost use Rattle.host_base.specs.Outsides.{Rose};
 ghost use Rattle.child_edge.specs.Rows.{IsQuiet, Each, OneSays, AllSound, OnKept, Feeds, Stays, IsNewRow, StartsRow, Changes, Releases, want_marks, end_marks, kept, is_kept, runs};
+ghost use Rattle.child_edge.specs.Starts.{counts_after, no_starts};
 
 use super::round::round;
-use super::{Kid, Row, SpawnFault, Spawner, acts};
+use super::{Kid, Row, SpawnFault, Spawner, StartCounts, acts};
 use host_base::{Bytes, Launch, NoMemory};
 use host_trace::Event;
 use pipe_pump::{feed_rings, rings};
@@ -22,6 +23,7 @@ pub struct ChildSet<S: Spawner> {
     rows: Vec<Row<S::Kid>>,
     /// Where the next round begins: behind the child that gave the last event.
     first: usize,
+    counts: StartCounts,
 }
 
 impl<S: Spawner + Drop> ChildSet<S> {
@@ -30,6 +32,7 @@ impl<S: Spawner + Drop> ChildSet<S> {
         ensures empty { IfOk result (λ set. set.rows.items ≡ []) }
         ensures cap { IfOk result (λ set. set.cap ≡ cap) }
         ensures spawner { IfOk result (λ set. set.spawner ≡ spawner) }
+        ensures counts { IfOk result (λ set. set.counts ≡ no_starts) }
     {
         let rows = Vec::with_capacity(alloc, cap as usize)?;
         Ok(ChildSet {
@@ -38,6 +41,7 @@ impl<S: Spawner + Drop> ChildSet<S> {
             cap,
             rows,
             first: 0,
+            counts: StartCounts::none(),
         })
     }
 
@@ -47,6 +51,8 @@ impl<S: Spawner + Drop> ChildSet<S> {
         ensures some { IfSome result (λ event. OneSays S.Kid.tells event (kept self.old.rows.items) self.new.rows.items) }
         ensures none { IsNone result → Each (IsQuiet S.Kid.tells) (kept self.old.rows.items) self.new.rows.items }
         ensures cap { self.new.cap ≡ self.old.cap }
+        ensures counts { self.new.counts ≡ self.old.counts }
+        ensures faults { S.faults self.old.spawner ≤ S.faults self.new.spawner }
         ensures sound { AllSound S.Kid.tells self.new.rows.items }
     {
         self.drop_settled();
@@ -61,6 +67,7 @@ impl<S: Spawner + Drop> ChildSet<S> {
         requires { AllSound S.Kid.tells self.old.rows.items }
         ensures kept { self.new.rows.items ≡ kept self.old.rows.items }
         ensures cap { self.new.cap ≡ self.old.cap }
+        ensures counts { self.new.counts ≡ self.old.counts }
         ensures faults { S.faults self.old.spawner ≤ S.faults self.new.spawner }
         ensures sound { AllSound S.Kid.tells self.new.rows.items }
     {
@@ -80,6 +87,8 @@ impl<S: Spawner + Drop> ChildSet<S> {
         requires { AllSound S.Kid.tells self.old.rows.items }
         ensures fed { OnKept (Feeds S.Kid.tells (if is_ok result then bytes.now else [])) k self.old.rows.items self.new.rows.items }
         ensures cap { self.new.cap ≡ self.old.cap }
+        ensures counts { self.new.counts ≡ self.old.counts }
+        ensures spawner { self.new.spawner ≡ self.old.spawner }
         ensures sound { AllSound S.Kid.tells self.new.rows.items }
     {
         acts::feed(&mut self.rows, k, bytes)
@@ -90,6 +99,8 @@ impl<S: Spawner + Drop> ChildSet<S> {
         requires { AllSound S.Kid.tells self.old.rows.items }
         ensures same { OnKept (Changes S.Kid.tells want_marks) k self.old.rows.items self.new.rows.items }
         ensures cap { self.new.cap ≡ self.old.cap }
+        ensures counts { self.new.counts ≡ self.old.counts }
+        ensures spawner { self.new.spawner ≡ self.old.spawner }
         ensures sound { AllSound S.Kid.tells self.new.rows.items }
     {
         acts::want(&mut self.rows, k);
@@ -100,6 +111,8 @@ impl<S: Spawner + Drop> ChildSet<S> {
         requires { AllSound S.Kid.tells self.old.rows.items }
         ensures same { OnKept (Changes S.Kid.tells end_marks) k self.old.rows.items self.new.rows.items }
         ensures cap { self.new.cap ≡ self.old.cap }
+        ensures counts { self.new.counts ≡ self.old.counts }
+        ensures spawner { self.new.spawner ≡ self.old.spawner }
         ensures sound { AllSound S.Kid.tells self.new.rows.items }
     {
         acts::end_input(&mut self.rows, k);
@@ -110,6 +123,8 @@ impl<S: Spawner + Drop> ChildSet<S> {
         requires { AllSound S.Kid.tells self.old.rows.items }
         ensures same { OnKept (Changes S.Kid.tells (λ m. m)) k self.old.rows.items self.new.rows.items }
         ensures cap { self.new.cap ≡ self.old.cap }
+        ensures counts { self.new.counts ≡ self.old.counts }
+        ensures spawner { self.new.spawner ≡ self.old.spawner }
         ensures sound { AllSound S.Kid.tells self.new.rows.items }
     {
         acts::kill(&mut self.rows, k);
@@ -120,6 +135,8 @@ impl<S: Spawner + Drop> ChildSet<S> {
         requires { AllSound S.Kid.tells self.old.rows.items }
         ensures same { OnKept (Releases S.Kid.tells) k self.old.rows.items self.new.rows.items }
         ensures cap { self.new.cap ≡ self.old.cap }
+        ensures counts { self.new.counts ≡ self.old.counts }
+        ensures spawner { self.new.spawner ≡ self.old.spawner }
         ensures sound { AllSound S.Kid.tells self.new.rows.items }
     {
         acts::release(&mut self.rows, k);
@@ -153,6 +170,7 @@ impl<S: Spawner + Drop> ChildSet<S> {
     pub fn end(&mut self)
         ensures none { self.new.rows.items ≡ [] }
         ensures cap { self.new.cap ≡ self.old.cap }
+        ensures counts { self.new.counts ≡ self.old.counts }
         ensures faults { S.faults self.old.spawner ≤ S.faults self.new.spawner }
     {
         while let Some(row) = self.rows.pop() {
@@ -167,7 +185,7 @@ impl<S: Spawner + Drop> ChildSet<S> {
         self.rows.iter().filter(|row| !row.exited).count()
     }
 
-    /// Starts child k of connection c, and its two pumps.
+    /// Starts child k of connection c, and its two pumps. What is answered is counted.
     pub fn start(&mut self, k: u64, c: u64, launch: &Launch) -> Result<(), SpawnFault>
         requires sound { AllSound S.Kid.tells self.old.rows.items }
         requires room { count_by is_kept self.old.rows.items < self.old.cap }
@@ -175,6 +193,22 @@ impl<S: Spawner + Drop> ChildSet<S> {
         ensures err { OnErr result (self.new.rows.items ≡ kept self.old.rows.items) }
         ensures sound { AllSound S.Kid.tells self.new.rows.items }
         ensures cap { self.new.cap ≡ self.old.cap }
+        ensures counts { self.new.counts ≡ counts_after result self.old.counts }
+        ensures faults { S.faults self.old.spawner ≤ S.faults self.new.spawner }
+        ensures failed { result ≡ Err SpawnFault.Failed → Rose (S.faults self.old.spawner) (S.faults self.new.spawner) }
+    {
+        let started = self.try_start(k, c, launch);
+        self.counts = self.counts.after(&started);
+        started
+    }
+
+    fn try_start(&mut self, k: u64, c: u64, launch: &Launch) -> Result<(), SpawnFault>
+        requires sound { AllSound S.Kid.tells self.old.rows.items }
+        ensures ok { OnOk result (StartsRow S.Kid.tells k c (kept self.old.rows.items) self.new.rows.items) }
+        ensures err { OnErr result (self.new.rows.items ≡ kept self.old.rows.items) }
+        ensures sound { AllSound S.Kid.tells self.new.rows.items }
+        ensures cap { self.new.cap ≡ self.old.cap }
+        ensures counts { self.new.counts ≡ self.old.counts }
         ensures faults { S.faults self.old.spawner ≤ S.faults self.new.spawner }
         ensures failed { result ≡ Err SpawnFault.Failed → Rose (S.faults self.old.spawner) (S.faults self.new.spawner) }
     {
@@ -193,6 +227,7 @@ impl<S: Spawner + Drop> ChildSet<S> {
     fn start_row(&mut self, k: u64, c: u64, launch: &Launch) -> Result<Row<S::Kid>, SpawnFault>
         ensures rows { self.new.rows ≡ self.old.rows }
         ensures cap { self.new.cap ≡ self.old.cap }
+        ensures counts { self.new.counts ≡ self.old.counts }
         ensures row { IfOk result (IsNewRow S.Kid.tells k c) }
         ensures faults { S.faults self.old.spawner ≤ S.faults self.new.spawner }
         ensures failed { result ≡ Err SpawnFault.Failed → Rose (S.faults self.old.spawner) (S.faults self.new.spawner) }

@@ -11,22 +11,10 @@ use Rattle.crossbeam_utils.proofs.sync.parker.RuledParker.TheSendSync as parker
 use Rattle.pipe_pump.specs.contracts.tap.Tap as Tap
 use Rattle.pipe_pump.proofs.tap.Tap.TheSendSync as tap
 use Rattle.pipe_pump.specs.contracts.feeder.Feeder as Feeder
-use Rattle.pipe_pump.proofs.Crosses.{hand_send, pump_ring_send, feed_ring_send}
-use Rattle.pump_pool.proofs.Crosses.{hand_send as done_hand_send}
-use Rattle.pump_pool.specs.contracts.outward.OutPump as OutPump
-use Rattle.pump_pool.specs.contracts.inward.InPump as InPump
-use Rattle.pump_pool.specs.contracts.inward.InHands as InHands
+use Rattle.pipe_pump.proofs.Crosses.{hand_send}
+use Rattle.std_spawner.proofs.Crosses.{out_pump_send}
 use Rattle.child_edge.specs.contracts.row.Row as Row
 use Rattle.child_edge.specs.contracts.set.ChildSet as ChildSet
-use Rattle.std_spawner.proofs.Crosses.{bell_send, belled_send, input_send, job_send}
-use Rattle.std_spawner.specs.contracts.input.Held as Held
-use Rattle.std_spawner.specs.contracts.input.Running as Running
-use Rattle.std_spawner.specs.contracts.input.Input as Input
-use Rattle.std_spawner.specs.contracts.kid.StdKid as StdKid
-use Rattle.std_spawner.specs.contracts.spawner.StdSpawner as StdSpawner
-use Rattle.std_spawner.specs.contracts.threads.IdleThreads as IdleThreads
-use Rattle.pump_pool.proofs.worker.Worker.TheSendSync as worker
-use Rattle.pump_pool.proofs.worker.Busy.TheSendSync as busy
 use Rattle.socket_set.proofs.client.Client.TheSendSync as client
 use Rattle.pipe_pump.specs.contracts.feed_state.FeedState as FeedState
 use Rattle.child_edge.specs.declared.kid.Kid as Kid
@@ -48,33 +36,6 @@ pub feeder_send : IsSend Feeder.the_field.row
 feeder_send =
     struct_send (shape Feeder.the_type)
     (feed_state_send, (search (sendable, crosses, end.the_send, hand_send) depth 20, (search (sendable, crosses, unparker.the_field_send) depth 20, tt)))
-
-pub out_pump_send : (P : RattleType) (g : PipeIn.Ghosts P.Denot) → IsSend P → IsSend (OutPump.the_field P g).row
-out_pump_send P g s = search (sendable, crosses, end.the_send, done_hand_send, pump_ring_send) depth 20
-
-pub in_pump_send : (P : RattleType) (g : PipeOut.Ghosts P.Denot) → IsSend P → IsSend (InPump.the_field P g).row
-in_pump_send P g s = search (sendable, crosses, end.the_send, done_hand_send, feed_ring_send) depth 20
-
-pub in_hands_send : (P : RattleType) (g : PipeOut.Ghosts P.Denot) → IsSend P → IsSend (InHands.the_field P g).row
-in_hands_send P g s = search (sendable, crosses, end.the_send, done_hand_send, feed_ring_send) depth 20
-
-held_send : IsSend Held.the_field.row
-held_send = search (sendable, crosses, in_hands_send, feed_ring_send, input_send, worker.the_field_send, job_send, bell_send) depth 20
-
-running_send : IsSend Running.the_field.row
-running_send = search (sendable, crosses, in_pump_send, input_send, busy.the_field_send, job_send) depth 20
-
-kid_input_send : IsSend Input.the_field.row
-kid_input_send = search (sendable, crosses, held_send, running_send, worker.the_field_send, job_send) depth 20
-
-pub kid_send : (R : RattleType) → IsSend R → IsSend (StdKid.the_field R).row
-kid_send R s = search (sendable, crosses, out_pump_send, belled_send, busy.the_field_send, job_send, kid_input_send) depth 20
-
-threads_send : (T : RattleType) → IsSend T → IsSend (IdleThreads.the_field T).row
-threads_send T s = search (sendable, crosses, worker.the_field_send, job_send) depth 20
-
-pub spawner_send : (R T : RattleType) → IsSend R → IsSend T → IsSend (StdSpawner.the_field R T).row
-spawner_send R T s t = search (sendable, crosses, bell_send, threads_send) depth 20
 
 row_send : (K : RattleType) → IsSend K → IsSend (Row.the_field K).row
 row_send K s = search (sendable, crosses, tap_send, feeder_send) depth 60

@@ -30,7 +30,7 @@ module _ {K : Type 0} where
             | inr w ↦ w.begins
           ]
         ]
-        | inr heard ↦ elim heard [
+        | inr heard ↦ elim heard.1 [
           | inl w ↦ w.says.due
           | inr v ↦ elim v [
             | inl w ↦ no_child_full tells k n (kept a.rows) b.rows w.says

@@ -1,3 +1,4 @@
 pub mod Quiet
 pub mod Full
 pub mod Crosses
+mod Heard

@@ -3,7 +3,7 @@ use Rattle.std.proofs.Common.{◌≡◌, ◌∙◌, ◌⊎◌, inl, inr, ℕ, �
 use Rattle.std.specs.Prelude.{⊤, IfSome}
 use Rattle.host_base.specs.Outsides.{Rose}
 use Rattle.host_trace.specs.declared.items.Event.{Event}
-use Rattle.host_trace.specs.declared.items.Event.TheVariants.{Stop}
+use Rattle.host_trace.specs.declared.items.Event.TheVariants.{StartFailed, Stop}
 use Rattle.child_edge.specs.Kids.{KidTells}
 use Rattle.child_edge.specs.declared.row.Row.{Row}
 use Rattle.child_edge.specs.Rows.{OneSays, Each, Rests, IsQuiet as IsQuietRow, kept, is_kept, runs}
@@ -11,7 +11,8 @@ use Rattle.child_edge.proofs.Steps.{stays_two, marks_two, says_two as row_says_t
 use Rattle.child_edge.proofs.Lists.{each_stays}
 use Rattle.socket_set.specs.Clients.{ClientState, Says, Rests as ClientRests}
 use Rattle.socket_set.proofs.Sets.{rests_self, rests_two, says_two}
-use Rattle.once_edge.specs.Once.{OnceState, ChildrenRest, SameDue, IsQuiet, Counts, CutCounts, OfClient, OfChild, IsHeard, Counted, OnClient, OnChildren}
+use Rattle.once_edge.specs.declared.asked.Asked.{Asked}
+use Rattle.once_edge.specs.Once.{OnceState, ChildrenRest, SameDue, SameRest, StartFails, StartWants, IsBegun, IsQuiet, Counts, CutCounts, OfClient, OfChild, IsHeard, Counted, OnClient, OnChildren}
 
 -- a list whose items all pass
 keep_head : {A : Type 0} (p : A → Bool) (x : A) (xs : List A) → p x ≡ true → filter p xs ≡ xs → filter p (x ∷ xs) ≡ x ∷ xs
@@ -102,14 +103,21 @@ module _ {K : Type 0} where
       ]
 
   due_two : (a b d : OnceState K) → SameDue a b → SameDue b d → SameDue a d
-  due_two a b d g h = record { peer = h.peer ∙ g.peer; starts = h.starts ∙ g.starts; unstarted = h.unstarted ∙ g.unstarted }
+  due_two a b d g h =
+      record {
+        peer = h.peer ∙ g.peer;
+        starts = h.starts ∙ g.starts;
+        unstarted = h.unstarted ∙ g.unstarted;
+        tried = h.tried ∙ g.tried;
+        stopped = h.stopped ∙ g.stopped;
+      }
 
   pub quiet_self : (tells : K → KidTells) (a : OnceState K) → IsQuiet tells a a
   quiet_self tells a =
       record {
         client = rests_self a.client;
         rows = inl refl;
-        due = record { peer = refl; starts = refl; unstarted = refl };
+        due = record { peer = refl; starts = refl; unstarted = refl; tried = refl; stopped = refl };
       }
 
   pub quiet_two : (tells : K → KidTells) (a b d : OnceState K) → IsQuiet tells a b → IsQuiet tells b d → IsQuiet tells a d
@@ -131,11 +139,11 @@ module _ {K : Type 0} where
       ]
 
   pub counts_self : (a : OnceState K) → Counts a a
-  counts_self a = record { limit = refl; grown = omega arith; cut = inl refl }
+  counts_self a = record { limit = refl; room = refl; grown = omega arith; cut = inl refl }
 
   pub counts_two : (a b d : OnceState K) → Counts a b → Counts b d → Counts a d
   counts_two a b d g h =
-      record { limit = h.limit ∙ g.limit; grown = omega (arith, g.grown, h.grown); cut = cut_two a b d g h }
+      record { limit = h.limit ∙ g.limit; room = h.room ∙ g.room; grown = omega (arith, g.grown, h.grown); cut = cut_two a b d g h }
 
   pub counted_later : (e : Event) (a b d : OnceState K) → Counts a b → Counted e b d → Counted e a d
   counted_later e a b d g h =
@@ -161,7 +169,9 @@ module _ {K : Type 0} where
           | inr w ↦ inr (inr (
             w.0,
             record {
-              quiet = quiet_two tells a b d g w.1.quiet;
+              quiet = quiet_two tells a b (record d { stopped = false }) g w.1.quiet;
+              untold = sym g.due.stopped ∙ w.1.untold;
+              told = w.1.told;
               shut = w.1.shut;
               none_runs = w.1.none_runs;
               none_asked = w.1.none_asked;
@@ -173,25 +183,25 @@ module _ {K : Type 0} where
 
   -- ---- the steps of one turn
 
-  due_same : (a b : OnceState K) → b.peer ≡ a.peer → b.starts ≡ a.starts → b.unstarted ≡ a.unstarted → SameDue a b
-  due_same a b p q r = record { peer = p; starts = q; unstarted = r }
+  due_same : (a b : OnceState K) → b.peer ≡ a.peer → b.starts ≡ a.starts → b.unstarted ≡ a.unstarted → b.tried ≡ a.tried → b.stopped ≡ a.stopped → SameDue a b
+  due_same a b p q r t u = record { peer = p; starts = q; unstarted = r; tried = t; stopped = u }
 
   pub child_quiet : (tells : K → KidTells) (a b : OnceState K) → OnChildren (λ rows now. Each (IsQuietRow tells) (kept rows) now) a b → IsQuiet tells a b
   child_quiet tells a b h =
       record {
         client = subst (λ w. ClientRests a.client w) (sym (ap (λ s. s.client) h.same)) (rests_self a.client);
         rows = children_quiet tells a.rows b.rows h.changed;
-        due = due_same a b (ap (λ s. s.peer) h.same) (ap (λ s. s.starts) h.same) (ap (λ s. s.unstarted) h.same);
+        due = due_same a b (ap (λ s. s.peer) h.same) (ap (λ s. s.starts) h.same) (ap (λ s. s.unstarted) h.same) (ap (λ s. s.tried) h.same) (ap (λ s. s.stopped) h.same);
       }
 
-  counts_same : (a b : OnceState K) → b.limit ≡ a.limit → b.faults ≡ a.faults → b.cut ≡ a.cut → Counts a b
-  counts_same a b p q r = record { limit = p; grown = omega (arith, q); cut = inl r }
+  counts_same : (a b : OnceState K) → b.limit ≡ a.limit → b.room ≡ a.room → b.faults ≡ a.faults → b.cut ≡ a.cut → Counts a b
+  counts_same a b p m q r = record { limit = p; room = m; grown = omega (arith, q); cut = inl r }
 
   pub child_counts : (R : List (Row K) → List (Row K) → Type 0) (a b : OnceState K) → OnChildren R a b → Counts a b
-  child_counts R a b h = counts_same a b (ap (λ s. s.limit) h.same) (ap (λ s. s.faults) h.same) (ap (λ s. s.cut) h.same)
+  child_counts R a b h = counts_same a b (ap (λ s. s.limit) h.same) (ap (λ s. s.room) h.same) (ap (λ s. s.faults) h.same) (ap (λ s. s.cut) h.same)
 
   pub client_counts : (R : ClientState → ClientState → Type 0) (a b : OnceState K) → OnClient R a b → Counts a b
-  client_counts R a b h = counts_same a b (ap (λ s. s.limit) h.same) (ap (λ s. s.faults) h.same) (ap (λ s. s.cut) h.same)
+  client_counts R a b h = counts_same a b (ap (λ s. s.limit) h.same) (ap (λ s. s.room) h.same) (ap (λ s. s.faults) h.same) (ap (λ s. s.cut) h.same)
 
   pub child_said : (tells : K → KidTells) (e : Event) (a b d : OnceState K) → OnChildren (λ rows now. OneSays tells e (kept rows) now) a b
       → d ≡ record b { faults = d.faults; cut = d.cut } → OfChild tells e a d
@@ -202,7 +212,9 @@ module _ {K : Type 0} where
         due = due_same a d
             (ap (λ s. s.peer) same ∙ ap (λ s. s.peer) h.same)
             (ap (λ s. s.starts) same ∙ ap (λ s. s.starts) h.same)
-            (ap (λ s. s.unstarted) same ∙ ap (λ s. s.unstarted) h.same);
+            (ap (λ s. s.unstarted) same ∙ ap (λ s. s.unstarted) h.same)
+            (ap (λ s. s.tried) same ∙ ap (λ s. s.tried) h.same)
+            (ap (λ s. s.stopped) same ∙ ap (λ s. s.stopped) h.same);
       }
 
   pub counted_child : (R : List (Row K) → List (Row K) → Type 0) (e : Event) (a b d : OnceState K) → OnChildren R a b → Counted e b d → Counted e a d
@@ -213,7 +225,7 @@ module _ {K : Type 0} where
       record {
         client = h.changed;
         rows = inl (ap (λ s. s.rows) h.same);
-        due = due_same a b (ap (λ s. s.peer) h.same) (ap (λ s. s.starts) h.same) (ap (λ s. s.unstarted) h.same);
+        due = due_same a b (ap (λ s. s.peer) h.same) (ap (λ s. s.starts) h.same) (ap (λ s. s.unstarted) h.same) (ap (λ s. s.tried) h.same) (ap (λ s. s.stopped) h.same);
       }
 
   pub client_said : (tells : K → KidTells) (e : Event) (a b d : OnceState K) → OnClient (λ r s. Says 0 r s e) a b
@@ -225,7 +237,9 @@ module _ {K : Type 0} where
         due = due_same a d
             (ap (λ s. s.peer) same ∙ ap (λ s. s.peer) h.same)
             (ap (λ s. s.starts) same ∙ ap (λ s. s.starts) h.same)
-            (ap (λ s. s.unstarted) same ∙ ap (λ s. s.unstarted) h.same);
+            (ap (λ s. s.unstarted) same ∙ ap (λ s. s.unstarted) h.same)
+            (ap (λ s. s.tried) same ∙ ap (λ s. s.tried) h.same)
+            (ap (λ s. s.stopped) same ∙ ap (λ s. s.stopped) h.same);
       }
 
   pub counted_client : (R : ClientState → ClientState → Type 0) (e : Event) (a b d : OnceState K) → OnClient R a b → Counted e b d → Counted e a d
@@ -238,7 +252,7 @@ module _ {K : Type 0} where
       record {
         client = h;
         rows = inl (ap (λ s. s.rows) same);
-        due = due_same a b (ap (λ s. s.peer) same) (ap (λ s. s.starts) same) (ap (λ s. s.unstarted) same);
+        due = due_same a b (ap (λ s. s.peer) same) (ap (λ s. s.starts) same) (ap (λ s. s.unstarted) same) (ap (λ s. s.tried) same) (ap (λ s. s.stopped) same);
       }
 
   pub heard_client : (tells : K → KidTells) (e : Event) (a b : OnceState K) → OfClient tells e a b → IsHeard tells e a b
@@ -256,20 +270,53 @@ module _ {K : Type 0} where
         due = due_same a d
             (ap (λ s. s.peer) same ∙ ap (λ s. s.peer) h.same)
             (ap (λ s. s.starts) same ∙ ap (λ s. s.starts) h.same)
-            (ap (λ s. s.unstarted) same ∙ ap (λ s. s.unstarted) h.same);
+            (ap (λ s. s.unstarted) same ∙ ap (λ s. s.unstarted) h.same)
+            (ap (λ s. s.tried) same ∙ ap (λ s. s.tried) h.same)
+            (ap (λ s. s.stopped) same ∙ ap (λ s. s.stopped) h.same);
       }
 
   pub left_counts : (a b d : OnceState K) → OnClient ClientRests a b → d ≡ record b { faults = d.faults; cut = true } → b.faults ≤ d.faults → Rose b.faults d.faults → Counts a d
   left_counts a b d h same grown rose =
-      counts_two a b d (client_counts ClientRests a b h) (record { limit = ap (λ s. s.limit) same; grown = grown; cut = inr rose })
+      counts_two a b d (client_counts ClientRests a b h) (record { limit = ap (λ s. s.limit) same; room = ap (λ s. s.room) same; grown = grown; cut = inr rose })
 
-  pub over_heard : (tells : K → KidTells) (a : OnceState K) → a.client.shut ≡ true → count_by runs a.rows ≡ 0 → a.starts ≡ []
-      → (a.client.outgoing ≡ []) ⊎ (a.cut ≡ true) → IsHeard tells Stop a a
-  over_heard tells a shut none none_asked sent =
-      inr (inr (refl, record { quiet = quiet_self tells a; shut = shut; none_runs = none; none_asked = none_asked; sent = sent }))
+  pub over_heard : (tells : K → KidTells) (a b : OnceState K) → b ≡ record a { stopped = true } → a.stopped ≡ false → a.client.shut ≡ true
+      → count_by runs a.rows ≡ 0 → a.starts ≡ [] → (a.client.outgoing ≡ []) ⊎ (a.cut ≡ true) → IsHeard tells Stop a b
+  over_heard tells a b same untold shut none none_asked sent =
+      subst (λ w. IsHeard tells Stop a w) (sym same)
+      (inr (inr (
+        refl,
+        record {
+          quiet = record {
+            client = rests_self a.client;
+            rows = inl refl;
+            due = record { peer = refl; starts = refl; unstarted = refl; tried = refl; stopped = sym untold };
+          };
+          untold = untold;
+          told = refl;
+          shut = shut;
+          none_runs = none;
+          none_asked = none_asked;
+          sent = sent;
+        },
+      )))
 
-  pub over_counted : (a : OnceState K) → Counted Stop a a
-  over_counted a = record { counts = counts_self a; failure = λ f. absurd (not_true f) }
+  pub over_counted : (a b : OnceState K) → b ≡ record a { stopped = true } → Counted Stop a b
+  over_counted a b same =
+      subst (λ w. Counted Stop a w) (sym same)
+      (record { counts = record { limit = refl; room = refl; grown = omega arith; cut = inl refl }; failure = λ f. absurd (not_true f) })
+
+  -- a start that failed, and one that found no memory once the client was shut
+  pub begin_fails : (tells : K → KidTells) (asked : Asked) (e : Event) (a d : OnceState K) → e ≡ StartFailed asked.k
+      → StartFails a d → d.unstarted ≡ a.unstarted → d.starts ≡ a.starts → SameRest a d → IsBegun tells asked e a d
+  begin_fails tells asked e a d same fails u s r =
+      subst (λ w. IsBegun tells asked w a d) (sym same)
+      (record { begins = (refl, inr (inl fails)); unstarted = u; starts = s; rest = r })
+
+  pub begin_wants : (tells : K → KidTells) (asked : Asked) (e : Event) (a d : OnceState K) → e ≡ StartFailed asked.k
+      → a.client.shut ≡ true → StartWants a d → d.unstarted ≡ a.unstarted → d.starts ≡ a.starts → SameRest a d → IsBegun tells asked e a d
+  begin_wants tells asked e a d same shut wants u s r =
+      subst (λ w. IsBegun tells asked w a d) (sym same)
+      (record { begins = (refl, inr (inr (shut, wants))); unstarted = u; starts = s; rest = r })
 
   -- the same of what may have been told
   pub later : (tells : K → KidTells) (r : Option Event) (a b d : OnceState K) → IsQuiet tells a b × Counts a b

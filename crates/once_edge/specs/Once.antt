@@ -13,7 +13,9 @@ use Rattle.host_trace.specs.declared.outside.Acted.TheVariants.{Done, NoRoom as 
 use Rattle.host_trace.specs.Told.{is_failure}
 use Rattle.child_edge.specs.Kids.{KidTells}
 use Rattle.child_edge.specs.declared.row.Row.{Row}
-use Rattle.child_edge.specs.Rows.{OneSays, Each, Rests, OnKept, Feeds, Changes, Releases, StartsRow, want_marks, end_marks, kept, runs}
+use Rattle.child_edge.specs.Rows.{OneSays, Each, Rests, OnKept, Feeds, Changes, Releases, StartsRow, want_marks, end_marks, kept, is_kept, runs}
+use Rattle.child_edge.specs.declared.starts.StartCounts.{StartCounts}
+use Rattle.child_edge.specs.Starts.{no_starts, has_started, has_failed, has_wanted}
 use Rattle.socket_set.specs.Clients.{ClientState, Says, Rests as ClientRests, IsNewClient, UnlessShut, WantsMore, Writes, Upgrades, Frames, Shuts}
 use Rattle.socket_set.specs.Sockets.{SocketTells}
 use Rattle.once_edge.specs.declared.asked.Asked.{Asked}
@@ -21,8 +23,12 @@ use Rattle.once_edge.specs.declared.asked.Asked.{Asked}
 pub record OnceState (K : Type 0) : Type 0 where
   -- the client
   pub client : ClientState
-  -- what is kept of each child
+  -- what is kept of each child, and how many may be
   pub rows : List (Row K)
+  pub room : ℕ
+  -- how the starts of children were answered, and how often what starts them failed
+  pub tried : StartCounts
+  pub failed : ℕ
   -- the client that connected, until that is told
   pub peer : Option Peer
   -- the children that are to be started, the first to be asked for first
@@ -31,6 +37,8 @@ pub record OnceState (K : Type 0) : Type 0 where
   pub unstarted : Option ℕ
   -- the client failed, so what waits for it is not sent
   pub cut : Bool
+  -- Stop was told
+  pub stopped : Bool
   -- how many children may run
   pub limit : ℕ
   pub faults : ℕ
@@ -78,10 +86,12 @@ module _ {K : Type 0} where
   pub record IsNew (socket : SocketTells) (peer : Peer) (limit : ℕ) (s : OnceState K) : Type 0 where
     pub client : IsNewClient socket s.client
     pub rows : s.rows ≡ []
+    pub untried : s.tried ≡ no_starts
     pub connected : s.peer ≡ Some peer
     pub starts : s.starts ≡ []
     pub unstarted : s.unstarted ≡ None
     pub not_cut : s.cut ≡ false
+    pub not_stopped : s.stopped ≡ false
     pub limit_is : s.limit ≡ limit
     pub faults : s.faults ≡ 0
 
@@ -97,11 +107,13 @@ module _ {K : Type 0} where
   abbrev pub ChildrenRest : (K → KidTells) → List (Row K) → List (Row K) → Type 0
   ChildrenRest tells rows now = (now ≡ rows) ⊎ Each (Rests tells) (kept rows) now
 
-  -- what is to be told besides of the client and of children that run is the same
+  -- what is to be told besides of the client and of children that run is the same, and no child was tried to be started
   pub record SameDue (old new : OnceState K) : Type 0 where
     pub peer : new.peer ≡ old.peer
     pub starts : new.starts ≡ old.starts
     pub unstarted : new.unstarted ≡ old.unstarted
+    pub tried : new.tried ≡ old.tried
+    pub stopped : new.stopped ≡ old.stopped
 
   -- nothing was told
   pub record IsQuiet (tells : K → KidTells) (old new : OnceState K) : Type 0 where
@@ -112,6 +124,7 @@ module _ {K : Type 0} where
   -- counts never fall, and each failure is counted
   pub record Counts (old new : OnceState K) : Type 0 where
     pub limit : new.limit ≡ old.limit
+    pub room : new.room ≡ old.room
     pub grown : old.faults ≤ new.faults
     pub cut : CutCounts old.cut new.cut old.faults new.faults
 
@@ -127,39 +140,64 @@ module _ {K : Type 0} where
     pub client : ClientRests old.client new.client
     pub due : SameDue old new
 
-  -- the client was shut, every child that was started was told to have exited, none is to be started, and what was
-  -- written left for the client unless that failed
+  -- the client was shut, every child that was started was told to have exited, none is to be started, what was written
+  -- left for the client unless that failed, and this was not told before
   pub record IsOver (tells : K → KidTells) (old new : OnceState K) : Type 0 where
-    pub quiet : IsQuiet tells old new
+    pub quiet : IsQuiet tells old (record new { stopped = false })
+    pub untold : old.stopped ≡ false
+    pub told : new.stopped ≡ true
     pub shut : new.client.shut ≡ true
     pub none_runs : count_by runs new.rows ≡ 0
     pub none_asked : new.starts ≡ []
     pub sent : (new.client.outgoing ≡ []) ⊎ (new.cut ≡ true)
 
-  -- what a start of child k of connection c is answered with, by what it did to the children; NoRoom is told where no
-  -- memory was found
-  abbrev pub Begins : (K → KidTells) → ℕ → ℕ → Event → List (Row K) → List (Row K) → Type 0
-  Begins tells k c (Started j) rows now = (j ≡ k) × StartsRow tells k c (kept rows) now
-  Begins tells k c (StartFailed j) rows now = (j ≡ k) × ((now ≡ rows) ⊎ (now ≡ kept rows))
-  Begins tells k c (NoRoom d) rows now = (d ≡ c) × ((now ≡ rows) ⊎ (now ≡ kept rows))
-  Begins tells k c _ rows now = ⊥
+  -- as many children were kept as may be, and none was tried to be started
+  pub record HadNoRoom (old new : OnceState K) : Type 0 where
+    pub full : old.room ≤ count_by is_kept old.rows
+    pub rows : new.rows ≡ old.rows
+    pub tried : new.tried ≡ old.tried
+
+  -- a child was tried to be started, once, which failed
+  pub record StartFails (old new : OnceState K) : Type 0 where
+    pub tried : new.tried ≡ has_failed old.tried
+    pub cause : Rose old.failed new.failed
+    pub rows : new.rows ≡ kept old.rows
+
+  -- .. or for which no memory was found
+  pub record StartWants (old new : OnceState K) : Type 0 where
+    pub tried : new.tried ≡ has_wanted old.tried
+    pub rows : new.rows ≡ kept old.rows
+
+  -- What a start of child k of connection c is answered with, by what it did to the children. Where no memory was found,
+  -- NoRoom is told, and where the client was shut, StartFailed.
+  abbrev pub Begins : (K → KidTells) → ℕ → ℕ → Event → OnceState K → OnceState K → Type 0
+  Begins tells k c (Started j) old new = (j ≡ k) × (new.tried ≡ has_started old.tried) × StartsRow tells k c (kept old.rows) new.rows
+  Begins tells k c (StartFailed j) old new =
+      (j ≡ k) × (HadNoRoom old new ⊎ StartFails old new ⊎ ((old.client.shut ≡ true) × StartWants old new))
+  Begins tells k c (NoRoom d) old new = (d ≡ c) × (old.client.shut ≡ false) × StartWants old new
+  Begins tells k c _ old new = ⊥
+
+  -- what a start leaves as it was
+  pub record SameRest (old new : OnceState K) : Type 0 where
+    pub client : new.client ≡ old.client
+    pub peer : new.peer ≡ old.peer
+    pub stopped : new.stopped ≡ old.stopped
 
   -- a child was tried to be started
   pub record IsBegun (tells : K → KidTells) (asked : Asked) (event : Event) (old new : OnceState K) : Type 0 where
-    pub begins : Begins tells asked.k asked.c event old.rows new.rows
+    pub begins : Begins tells asked.k asked.c event old new
     pub unstarted : new.unstarted ≡ unstarted_by event asked.k old.unstarted
     pub starts : new.starts ≡ old.starts
-    pub client : new.client ≡ old.client
-    pub peer : new.peer ≡ old.peer
+    pub rest : SameRest old new
 
-  -- the first child that was asked for was tried to be started
+  -- the first child that was asked for was tried to be started, once all before it were answered
   pub record OfStart (tells : K → KidTells) (event : Event) (old new : OnceState K) : Type 0 where
     pub asked : Asked
+    pub answered : old.unstarted ≡ None
     pub first : old.starts ≡ asked ∷ new.starts
-    pub begins : Begins tells asked.k asked.c event old.rows new.rows
+    pub begins : Begins tells asked.k asked.c event old new
     pub unstarted : new.unstarted ≡ unstarted_by event asked.k old.unstarted
-    pub client : new.client ≡ old.client
-    pub peer : new.peer ≡ old.peer
+    pub rest : SameRest old new
 
   -- the client connected
   pub record OfPeer (event : Event) (old new : OnceState K) : Type 0 where
@@ -183,9 +221,16 @@ module _ {K : Type 0} where
   abbrev pub IsHeard : (K → KidTells) → Event → OnceState K → OnceState K → Type 0
   IsHeard tells event old new = OfClient tells event old new ⊎ OfChild tells event old new ⊎ ((event ≡ Stop) × IsOver tells old new)
 
-  -- the event is owed: it has a cause in what was asked and what was heard, and is told once
+  -- the client was told to have connected, and every start was answered
+  pub record HasNoneDue (s : OnceState K) : Type 0 where
+    pub peer : s.peer ≡ None
+    pub unstarted : s.unstarted ≡ None
+    pub starts : s.starts ≡ []
+
+  -- The event is owed: it has a cause in what was asked and what was heard, and is told once. What is due comes before
+  -- what is waited for.
   abbrev pub IsOwed : (K → KidTells) → Event → OnceState K → OnceState K → Type 0
-  IsOwed tells event old new = IsDue tells event old new ⊎ IsHeard tells event old new
+  IsOwed tells event old new = IsDue tells event old new ⊎ (HasNoneDue old × IsHeard tells event old new)
 
   -- an event of failure comes only where the count of faults rose
   pub record Counted (event : Event) (old new : OnceState K) : Type 0 where
@@ -199,10 +244,11 @@ module _ {K : Type 0} where
     pub changed : R old.client new.client
     pub same : new ≡ record old { client = new.client }
 
-  -- the children were changed so, and nothing else
+  -- the children were changed so, and nothing else; what starts them may have failed to take one back
   pub record OnChildren (R : List (Row K) → List (Row K) → Type 0) (old new : OnceState K) : Type 0 where
     pub changed : R old.rows new.rows
-    pub same : new ≡ record old { rows = new.rows }
+    pub same : new ≡ record old { rows = new.rows; failed = new.failed }
+    pub grown : old.failed ≤ new.failed
 
   -- a child is to be started, behind the others
   pub record Asks (k c : ℕ) (launch : Launch) (old new : OnceState K) : Type 0 where

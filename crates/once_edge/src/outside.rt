@@ -12,10 +12,14 @@ use socket_set::Client;
 use std::alloc::Global;
 use std::marker::Model;
 use std::sync::Wait;
+use std::thread::yield_now;
 use std::time::{Clock, Duration};
 
 // How many bytes of the client are read at a time.
 const PIECE: usize = 65_536;
+
+// How often it lets others run before it sleeps: an exit comes soon after the end of the output.
+const TURNS: u64 = 16;
 
 // The shortest and the longest sleep, in microseconds. What the bell doesn't tell, as an exit, is asked for after each.
 const LEAST: u64 = 100;
@@ -29,6 +33,8 @@ pub struct OnceOutside<R, S: Spawner, P: PipeIn + Drop, K: Sink> {
     alloc: Global,
     // What wakes it: the pumps of the client and of the children.
     sleeper: Parker,
+    // How often it let others run since the last event, up to `TURNS`.
+    turns: u64,
     // How many microseconds it sleeps next.
     pause: u64,
     client: Client<StdioSocket<P, K>>,
@@ -37,6 +43,7 @@ pub struct OnceOutside<R, S: Spawner, P: PipeIn + Drop, K: Sink> {
     starts: Vec<Asked>,
     unstarted: Option<u64>,
     cut: bool,
+    stopped: bool,
     buffer: Vec<u8>,
     limit: u32,
     faults: u64,
@@ -53,10 +60,14 @@ impl<R, S: Spawner, P: PipeIn + Drop, K: Sink> Model for OnceOutside<R, S, P, K>
         record {
           client = o.client;
           rows = o.children.rows.items;
+          room = o.children.cap;
+          tried = o.children.counts;
+          failed = S.faults o.children.spawner;
           peer = o.peer;
           starts = o.starts.items;
           unstarted = o.unstarted;
           cut = o.cut;
+          stopped = o.stopped;
           limit = o.limit;
           faults = o.faults;
         } };
@@ -74,9 +85,10 @@ impl<
     ghost use Rattle.host_base.specs.Outsides.{Rose};
     ghost use Rattle.host_trace.specs.Told.{is_failure, carries_nothing};
     ghost use Rattle.child_edge.specs.Rows.{OneSays, Each, IsQuiet as IsQuietRow, kept, runs};
+    ghost use Rattle.child_edge.specs.Starts.{no_starts};
     ghost use Rattle.socket_set.specs.Clients.{Says, Rests};
     ghost use Rattle.once_edge.specs.Stdio.{socket_tells};
-    ghost use Rattle.once_edge.specs.Once.{OnceState, IsNew, IsQuiet, Counts, IsDue, IsHeard, IsOwed, Counted, OfClient, OfChild, OfStart, IsBegun, Acts, Asks, OnClient, OnChildren, is_on_child, is_on_client};
+    ghost use Rattle.once_edge.specs.Once.{OnceState, IsNew, IsQuiet, Counts, IsDue, HasNoneDue, IsHeard, IsOwed, Counted, OfClient, OfChild, OfStart, IsBegun, Acts, Asks, OnClient, OnChildren, is_on_child, is_on_client};
 
     /// A connection of which nothing was told, over children of which none was started. Whoever writes to its client
     /// or starts its children has a bell of the sleeper.
@@ -89,13 +101,16 @@ impl<
         children: ChildSet<S>,
         limit: u32,
     ) -> Result<Self, NoMemory>
-        requires { children.rows.items ≡ [] }
-        ensures { IfOk result (IsNew (socket_tells socket) peer limit) }
+        requires empty { children.rows.items ≡ [] }
+        requires counts { children.counts ≡ no_starts }
+        ensures new { IfOk result (IsNew (socket_tells socket) peer limit) }
+        ensures room { IfOk result (λ o. o.room ≡ children.cap) }
     {
         Ok(OnceOutside {
             rt,
             alloc,
             sleeper,
+            turns: 0,
             pause: LEAST,
             client: Client::new(alloc, socket),
             children,
@@ -103,6 +118,7 @@ impl<
             starts: Vec::new(alloc),
             unstarted: None,
             cut: false,
+            stopped: false,
             buffer: vec![in alloc; 0u8; PIECE]?,
             limit,
             faults: 0,
@@ -111,7 +127,14 @@ impl<
 
     // ---- events
 
-    /// The next event. It sleeps until there is one.
+    /// How often anything failed.
+    pub fn faults(&self) -> u64
+        ensures { result ≡ self.now.faults }
+    {
+        self.faults
+    }
+
+    /// The next event. It sleeps until there is one. After Stop there is none of its own accord.
     pub fn next_event(&mut self) -> Event
         ensures owed { IsOwed S.Kid.tells result self.old self.new }
         ensures counted { Counted result self.old self.new }
@@ -143,6 +166,7 @@ impl<
     {
         match self.hear() {
             Some(event) => {
+                self.turns = 0;
                 self.pause = LEAST;
                 Some(event)
             }
@@ -156,6 +180,11 @@ impl<
     fn sleep(&mut self)
         ensures { self.new ≡ self.old }
     {
+        if self.turns < TURNS {
+            self.turns += 1;
+            yield_now();
+            return;
+        }
         self.sleeper
             .park_timeout(&self.rt, Duration::from_micros(self.pause));
         self.pause = self.pause.saturating_mul(2).min(MOST);
@@ -164,7 +193,7 @@ impl<
     // What is told before anything is waited for.
     fn tell_due(&mut self) -> Option<Event>
         ensures some { IfSome result (λ event. IsDue S.Kid.tells event self.old self.new × Counted event self.old self.new) }
-        ensures none { IsNone result → self.new ≡ self.old }
+        ensures none { IsNone result → (self.new ≡ self.old) × HasNoneDue self.old }
     {
         if let Some(peer) = self.peer.take() {
             return Some(Event::Accepted { peer });
@@ -191,7 +220,8 @@ impl<
 
     // Tries to start the first that was asked for.
     fn start_first(&mut self) -> Event
-        requires { 0 < length self.old.starts }
+        requires some { 0 < length self.old.starts }
+        requires answered { self.old.unstarted ≡ None }
         ensures start { OfStart S.Kid.tells result self.old self.new }
         ensures counted { Counted result self.old self.new }
     {
@@ -208,11 +238,12 @@ impl<
         }
         match self.children.start(asked.k, asked.c, &asked.launch) {
             Ok(()) => Event::Started { k: asked.k },
-            Err(SpawnFault::NoMemory) if !self.client.is_shut() => {
+            Err(SpawnFault::Failed) => self.fail(asked.k),
+            Err(SpawnFault::NoMemory) if self.client.is_shut() => self.fail(asked.k),
+            Err(SpawnFault::NoMemory) => {
                 self.unstarted = Some(asked.k);
                 Event::NoRoom { c: asked.c }
             }
-            Err(_) => self.fail(asked.k),
         }
     }
 
@@ -351,14 +382,25 @@ impl<
         self.children.running() == 0 && self.starts.is_empty()
     }
 
-    // Stop, where all is over.
+    // All is over, and this was not told.
+    fn is_over(&self) -> bool
+        ensures untold { result ≡ true → self.now.stopped ≡ false }
+        ensures sent { result ≡ true → (self.now.client.outgoing ≡ []) ⊎ (self.now.cut ≡ true) }
+        ensures runs { result ≡ true → count_by runs self.now.rows ≡ 0 }
+        ensures asked { result ≡ true → self.now.starts ≡ [] }
+    {
+        !self.stopped && self.is_sent() && self.is_still()
+    }
+
+    // Stop, once, where all is over.
     #[tactic(auto, using(crate::proofs::Quiet::over_heard, crate::proofs::Quiet::over_counted, crate::proofs::Quiet::quiet_self, crate::proofs::Quiet::counts_self))]
     fn hear_end(&mut self) -> Option<Event>
         requires { self.old.client.shut ≡ true }
         ensures some { IfSome result (λ event. IsHeard S.Kid.tells event self.old self.new × Counted event self.old self.new) }
         ensures none { IsNone result → IsQuiet S.Kid.tells self.old self.new × Counts self.old self.new }
     {
-        if self.is_sent() && self.is_still() {
+        if self.is_over() {
+            self.stopped = true;
             Some(Event::Stop)
         } else {
             None
@@ -430,7 +472,8 @@ impl<
     /// Kills and reaps every child that is left. None is kept.
     pub fn end(&mut self)
         ensures none { self.new.rows ≡ [] }
-        ensures rest { self.new ≡ record self.old { rows = [] } }
+        ensures rest { self.new ≡ record self.old { rows = []; failed = self.new.failed } }
+        ensures grown { self.old.failed ≤ self.new.failed }
     {
         self.children.end();
     }

@@ -133,6 +133,7 @@ impl<
         site: &Site,
     ) -> Result<RealOutside<R, T, K>, NoMemory>
         ensures limit { IfOk result (λ o. o.limit ≡ site.now.limits.children) }
+        ensures room { IfOk result (λ o. o.room ≡ site.now.limits.connections) }
         ensures fresh { IfOk result IsFresh }
     {
         let children = ChildSet::new(self.alloc, spawner, site.limits.connections)?;
@@ -150,6 +151,7 @@ impl<
     // The outside of these parts.
     fn outside(&self, parts: Parts<T, K>, site: &Site) -> Result<RealOutside<R, T, K>, EnterFault>
         ensures limit { IfOk result (λ o. o.limit ≡ site.now.limits.children) }
+        ensures room { IfOk result (λ o. o.room ≡ site.now.limits.connections) }
         ensures fresh { IfOk result IsFresh }
     {
         let Parts {
@@ -182,6 +184,7 @@ impl<
     fn begin(&mut self, site: &Site) -> Result<Vec<RealOutside<R, T, K>>, EnterFault>
         ensures count { IfOk result (λ outs. vec_len outs ≡ 1) }
         ensures limit { IfOk result (λ outs. All (λ o. o.limit ≡ site.now.limits.children) outs.items) }
+        ensures room { IfOk result (λ outs. All (λ o. o.room ≡ site.now.limits.connections) outs.items) }
         ensures fresh { IfOk result (λ outs. All IsFresh outs.items) }
         ensures same { (self.new.out ≡ self.old.out) × (self.new.faults ≡ self.old.faults) }
     {
@@ -200,6 +203,7 @@ impl<
     fn enter_once(&mut self, site: &Site) -> Result<Vec<RealOutside<R, T, K>>, EnterFault>
         ensures count { IfOk result (λ outs. vec_len outs ≡ 1) }
         ensures limit { IfOk result (λ outs. All (λ o. o.limit ≡ site.now.limits.children) outs.items) }
+        ensures room { IfOk result (λ outs. All (λ o. o.room ≡ site.now.limits.connections) outs.items) }
         ensures fresh { IfOk result (λ outs. All IsFresh outs.items) }
         ensures out { OnOk result (self.new.out ≡ self.old.out + 1) }
         ensures err { OnErr result (self.new.out ≡ self.old.out) }
@@ -264,6 +268,7 @@ impl<
         ensures count { IfOk result (λ outs. vec_len outs ≡ loops) }
         ensures told { IfOk result (λ outs. All (λ o. IsNew (none_given self.old) (untold o)) outs.items) }
         ensures limit { IfOk result (λ outs. All (λ o. o.limit ≡ site.now.limits.children) outs.items) }
+        ensures room { IfOk result (λ outs. All (λ o. o.room ≡ site.now.limits.connections) outs.items) }
         ensures fresh { IfOk result (λ outs. All IsFresh outs.items) }
         ensures out { OnOk result (self.new.out ≡ self.old.out + loops) }
         ensures given { none_given self.new ≡ none_given self.old }

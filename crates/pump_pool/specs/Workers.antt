@@ -1,6 +1,6 @@
 -- Words on a worker and the place of its thread.
-use Rattle.std.specs.Prelude.{List}
-use Rattle.rtrb.specs.Ring.{sent, IsPair}
+use Rattle.std.specs.Prelude.{◌<◌, List}
+use Rattle.rtrb.specs.Ring.{sent, known_free, IsPair}
 use Rattle.pump_pool.specs.declared.worker.Worker.{Worker}
 use Rattle.pump_pool.specs.declared.worker.Busy.{Busy}
 use Rattle.pump_pool.specs.declared.worker.Station.{Station}
@@ -12,6 +12,10 @@ module _ {J : Type 0} where
 
   abbrev pub given_to : Busy J → List J
   given_to busy = sent busy.reins.jobs
+
+  -- its thread is known to have taken its last job
+  abbrev pub HasTaken : Busy J → Type 0
+  HasTaken busy = 0 < known_free busy.reins.jobs
 
   -- the jobs of this worker come in here
   abbrev pub IsPlaceOf : Station J → Worker J → Type 0

@@ -116,6 +116,7 @@ impl<P: PipeOut + Drop> InPump<P> {
         ensures ring { feed_of self.new ≡ feed_of self.old }
         ensures pipe { input_of self.new ≡ input_of self.old }
         ensures given { OnSome result (1 < length (handed_in self.new)) }
+        ensures none { result ≡ None → handed_in self.new ≡ handed_in self.old }
         ensures once { 1 < length (handed_in self.old) → result ≡ None }
     {
         match self.hand.pop() {

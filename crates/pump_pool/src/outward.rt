@@ -116,6 +116,7 @@ impl<P: PipeIn + Drop> OutPump<P> {
         ensures ring { ring_of self.new ≡ ring_of self.old }
         ensures pipe { output_of self.new ≡ output_of self.old }
         ensures given { OnSome result (1 < length (handed_out self.new)) }
+        ensures none { result ≡ None → handed_out self.new ≡ handed_out self.old }
         ensures once { 1 < length (handed_out self.old) → result ≡ None }
     {
         match self.hand.pop() {

@@ -6,7 +6,8 @@ use crossbeam_utils::sync::{Parker, Unparker};
 use host_base::NoMemory;
 use rtrb::{Consumer, Producer, RingBuffer};
 use std::alloc::Global;
-use std::sync::Wait;
+use std::sync::atomic::{AtomicBool, Ordering};
+use std::sync::{Arc, Wait};
 use std::thread;
 use std::thread::Threads;
 
@@ -18,22 +19,28 @@ pub trait Job {
     fn run<R: Wait>(self, rt: &R);
 }
 
-/// The place of a thread: where its jobs come in, and where it sleeps.
+/// The place of a thread: where its jobs come in, where it sleeps, and where it says that it ended its last job.
 #[derive(Drop)]
 pub struct Station<J> {
     jobs: Consumer<J>,
     parker: Parker,
+    rests: Arc<AtomicBool>,
 }
 
 /// Our end of a thread. Where it is dropped, the thread ends after its last job. Nobody joins it.
 pub struct Reins<J: Drop> {
     jobs: Producer<J>,
     parker: Unparker,
+    rests: Arc<AtomicBool>,
 }
 
 impl<J: Drop> Drop for Reins<J> {
     fn drop(self) {
-        let Reins { jobs, parker } = self;
+        let Reins {
+            jobs,
+            parker,
+            rests: _,
+        } = self;
         drop(jobs);
         parker.unpark();
     }
@@ -66,12 +73,19 @@ impl<J: Job + Send + Drop + 'static> Station<J> {
 impl<J: Job + Drop> Station<J> {
     // Runs what comes until our end is dropped.
     fn work<R: Wait>(self, rt: &R) {
-        let Station { jobs, parker } = self;
+        let Station {
+            jobs,
+            parker,
+            rests,
+        } = self;
         let mut jobs = jobs;
         for _ in rt.forever() {
             let is_last = jobs.is_abandoned();
             match jobs.pop() {
-                Ok(job) => job.run(rt),
+                Ok(job) => {
+                    job.run(rt);
+                    rests.store(true, Ordering::SeqCst);
+                }
                 Err(_) if is_last => return,
                 Err(_) => parker.park(rt),
             }
@@ -92,13 +106,16 @@ impl<J: Drop> Worker<J> {
         let (jobs, mailbox) = RingBuffer::new(alloc, 1)?;
         let parker = Parker::new(alloc)?;
         let sleeper = parker.unparker().clone()?;
+        let rests = Arc::new(alloc, AtomicBool::new(true))?;
         let reins = Reins {
             jobs,
             parker: sleeper,
+            rests: Arc::try_clone(&rests)?,
         };
         let station = Station {
             jobs: mailbox,
             parker,
+            rests,
         };
         Ok((Worker { reins }, station))
     }
@@ -109,6 +126,7 @@ impl<J: Drop> Worker<J> {
     {
         let Worker { reins } = self;
         let mut reins = reins;
+        reins.rests.store(false, Ordering::SeqCst);
         reins.jobs.push_reserved(job);
         reins.parker.unpark();
         Busy { reins }
@@ -116,12 +134,18 @@ impl<J: Drop> Worker<J> {
 }
 
 impl<J: Drop> Busy<J> {
-    ghost use Rattle.std.specs.Prelude.{◌≡◌, IfSome};
-    ghost use Rattle.pump_pool.specs.Workers.{given, given_to};
+    ghost use Rattle.std.specs.Prelude.{◌≡◌, IfSome, IsSome};
+    ghost use Rattle.pump_pool.specs.Workers.{given, given_to, HasTaken};
+
+    /// Whether its thread has said that it ended its last job.
+    pub fn rests(&self) -> bool {
+        self.reins.rests.load(Ordering::SeqCst)
+    }
 
     /// The worker, where its thread has taken its last job. The thread may still run it.
     pub fn worker(self) -> Option<Worker<J>>
         ensures same { IfSome result (λ worker. given worker ≡ given_to self) }
+        ensures taken { HasTaken self → IsSome result }
     {
         let Busy { reins } = self;
         let mut reins = reins;

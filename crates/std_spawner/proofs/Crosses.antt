@@ -2,13 +2,29 @@
 use denote.RattleType.{RattleType}
 use denote.Param.Send.{IsSend, sendable}
 use Rattle.std.proofs.Crossing.{crosses}
-use Rattle.pump_pool.proofs.Crosses.{out_job_send, in_job_send}
+use Rattle.rtrb.proofs.end.End.TheSendSync as end
+use Rattle.pipe_pump.specs.declared.pipe.PipeIn as PipeIn
+use Rattle.pipe_pump.specs.declared.pipe.PipeOut as PipeOut
+use Rattle.pipe_pump.proofs.Crosses.{pump_ring_send, feed_ring_send}
+use Rattle.pump_pool.proofs.Crosses.{hand_send, out_job_send, in_job_send}
+use Rattle.pump_pool.proofs.worker.Worker.TheSendSync as worker
+use Rattle.pump_pool.proofs.worker.Busy.TheSendSync as busy
+use Rattle.pump_pool.specs.contracts.outward.OutPump as OutPump
+use Rattle.pump_pool.specs.contracts.inward.InPump as InPump
+use Rattle.pump_pool.specs.contracts.inward.InHands as InHands
 use Rattle.std_spawner.specs.contracts.bell.Bell as Bell
 use Rattle.std_spawner.proofs.bell.Bell.TheSendSync as bell
 use Rattle.std_spawner.specs.contracts.pipes.BelledPipe as BelledPipe
 use Rattle.std_spawner.specs.contracts.pipes.ChildInput as ChildInput
 use Rattle.std_spawner.specs.contracts.job.Pump as Pump
 use Rattle.std_spawner.specs.contracts.job.PumpJob as PumpJob
+use Rattle.std_spawner.specs.contracts.input.Held as Held
+use Rattle.std_spawner.specs.contracts.input.Running as Running
+use Rattle.std_spawner.specs.contracts.input.Input as Input
+use Rattle.std_spawner.specs.contracts.kid.StdKid as StdKid
+use Rattle.std_spawner.specs.contracts.spawner.StdSpawner as StdSpawner
+use Rattle.std_spawner.specs.contracts.threads.IdleThreads as IdleThreads
+use Rattle.std_spawner.specs.contracts.threads.ThreadPool as ThreadPool
 
 pub bell_send : IsSend Bell.the_field.row
 bell_send = bell.the_field_send
@@ -24,3 +40,35 @@ pump_send = search (sendable, crosses, out_job_send, in_job_send, belled_send, i
 
 pub job_send : IsSend PumpJob.the_field.row
 job_send = search (sendable, crosses, pump_send, bell_send) depth 20
+
+-- ---- what a loop keeps of its children
+
+pub out_pump_send : (P : RattleType) (g : PipeIn.Ghosts P.Denot) → IsSend P → IsSend (OutPump.the_field P g).row
+out_pump_send P g s = search (sendable, crosses, end.the_send, hand_send, pump_ring_send) depth 20
+
+in_pump_send : (P : RattleType) (g : PipeOut.Ghosts P.Denot) → IsSend P → IsSend (InPump.the_field P g).row
+in_pump_send P g s = search (sendable, crosses, end.the_send, hand_send, feed_ring_send) depth 20
+
+in_hands_send : (P : RattleType) (g : PipeOut.Ghosts P.Denot) → IsSend P → IsSend (InHands.the_field P g).row
+in_hands_send P g s = search (sendable, crosses, end.the_send, hand_send, feed_ring_send) depth 20
+
+held_send : IsSend Held.the_field.row
+held_send = search (sendable, crosses, in_hands_send, feed_ring_send, input_send, bell_send) depth 20
+
+running_send : IsSend Running.the_field.row
+running_send = search (sendable, crosses, in_pump_send, input_send, busy.the_field_send, job_send) depth 20
+
+kid_input_send : IsSend Input.the_field.row
+kid_input_send = search (sendable, crosses, held_send, running_send, worker.the_field_send, job_send) depth 20
+
+idle_send : (T : RattleType) → IsSend T → IsSend (IdleThreads.the_field T).row
+idle_send T s = search (sendable, crosses, worker.the_field_send, job_send) depth 20
+
+pool_send : (T : RattleType) → IsSend T → IsSend (ThreadPool.the_field T).row
+pool_send T s = search (sendable, crosses, idle_send) depth 20
+
+pub kid_send : (R T : RattleType) → IsSend R → IsSend T → IsSend (StdKid.the_field R T).row
+kid_send R T s t = search (sendable, crosses, out_pump_send, belled_send, busy.the_field_send, job_send, kid_input_send, pool_send) depth 20
+
+pub spawner_send : (R T : RattleType) → IsSend R → IsSend T → IsSend (StdSpawner.the_field R T).row
+spawner_send R T s t = search (sendable, crosses, bell_send, busy.the_field_send, job_send, pool_send) depth 20

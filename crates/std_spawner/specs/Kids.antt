@@ -1,11 +1,11 @@
 -- What a real child tells of itself.
-use Rattle.std.specs.Prelude.{◌≡◌, None, false}
+use Rattle.std.specs.Prelude.{◌≡◌, ◌≤◌, None, false}
 use Rattle.pipe_pump.specs.declared.from_pipe.PumpRing.{PumpRing}
 use Rattle.pump_pool.specs.Pumps.{ring_of}
 use Rattle.child_edge.specs.Kids.{KidTells}
 use Rattle.std_spawner.specs.declared.kid.StdKid.{StdKid}
 
-abbrev pub kid_tells : {R : Type 0} → StdKid R → KidTells
+abbrev pub kid_tells : {R T : Type 0} → StdKid R T → KidTells
 kid_tells kid =
     record {
       ring = ring_of kid.output;
@@ -19,8 +19,13 @@ kid_tells kid =
     }
 
 -- it was just started
-pub record IsNewStdKid {R : Type 0} (ring : PumpRing) (kid : StdKid R) : Type 0 where
+pub record IsNewStdKid {R T : Type 0} (ring : PumpRing) (kid : StdKid R T) : Type 0 where
   pub of_ring : ring_of kid.output ≡ ring
   pub out_open : kid.out_end ≡ None
   pub in_open : kid.in_end ≡ None
   pub running : kid.reaped ≡ false
+
+-- its input and what failed of it may have changed, and nothing else
+pub record SameButInput {R T : Type 0} (old new : StdKid R T) : Type 0 where
+  pub count : old.faults ≤ new.faults
+  pub rest : new ≡ record old { input = new.input; faults = new.faults }

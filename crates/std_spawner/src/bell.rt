@@ -1,7 +1,4 @@
 // What wakes a loop.
-ghost use Rattle.std.specs.Prelude.{◌≡◌, IfOk};
-ghost use Rattle.std.specs.Arc.{arc_value};
-
 use crossbeam_utils::sync::{Parker, Unparker};
 use host_base::NoMemory;
 
@@ -12,9 +9,12 @@ pub struct Bell {
 }
 
 impl Bell {
+    ghost use Rattle.std.specs.Prelude.{IfOk};
+    ghost use Rattle.std_spawner.specs.Bells.{WakesAt, WakesTheSame};
+
     /// One for the loop that sleeps there.
     pub fn at(sleeper: &Parker) -> Result<Self, NoMemory>
-        ensures { IfOk result (λ bell. arc_value bell.sleeper.state ≡ arc_value sleeper.now.unparker.state) }
+        ensures { IfOk result (λ bell. WakesAt bell sleeper.now) }
     {
         Ok(Bell {
             sleeper: sleeper.unparker().clone()?,
@@ -23,7 +23,7 @@ impl Bell {
 
     /// Another for the same loop.
     pub fn another(&self) -> Result<Self, NoMemory>
-        ensures { IfOk result (λ bell. arc_value bell.sleeper.state ≡ arc_value self.now.sleeper.state) }
+        ensures { IfOk result (λ bell. WakesTheSame self.now bell) }
     {
         Ok(Bell {
             sleeper: self.sleeper.clone()?,

@@ -4,18 +4,19 @@ ghost use Rattle.pipe_pump.specs.Rings.{IsFreshFeed};
 use super::bell::Bell;
 use super::job::{Pump, PumpJob};
 use super::pipes::ChildInput;
+use super::threads::{StartThread, ThreadPool};
+use child_edge::SpawnFault;
 use pipe_pump::{FeedLook, FeedRing, PumpDone, pump_in};
 use pump_pool::{Busy, InHands, InPump, Worker};
 use std::mem;
 use std::sync::Wait;
 
-/// A pump that has nothing to move yet, and the thread that is kept for it.
+/// A pump that has nothing to move yet.
 #[derive(Drop)]
 pub(crate) struct Held {
     pipe: ChildInput,
     feed: FeedRing,
     hands: InHands<ChildInput>,
-    thread: Worker<PumpJob>,
     bell: Bell,
     ghost fresh: { IsFreshFeed feed },
 }
@@ -25,13 +26,7 @@ impl Held {
     ghost use Rattle.pipe_pump.specs.Rings.{IsFreshFeed};
     ghost use Rattle.pump_pool.specs.Pumps.{feed_of, input_of};
 
-    pub fn new(
-        pipe: ChildInput,
-        feed: FeedRing,
-        hands: InHands<ChildInput>,
-        thread: Worker<PumpJob>,
-        bell: Bell,
-    ) -> Self
+    pub fn new(pipe: ChildInput, feed: FeedRing, hands: InHands<ChildInput>, bell: Bell) -> Self
         requires { IsFreshFeed feed }
         ensures pipe { result.pipe ≡ pipe }
         ensures feed { result.feed ≡ feed }
@@ -40,32 +35,29 @@ impl Held {
             pipe,
             feed,
             hands,
-            thread,
             bell,
         }
     }
 
     // Runs it at once: its feed was ended and nothing is left of it.
-    fn run_here<R: Wait>(self, rt: &R) -> (PumpDone<ChildInput>, Worker<PumpJob>) {
+    fn run_here<R: Wait>(self, rt: &R) -> PumpDone<ChildInput> {
         let Held {
             pipe,
             feed,
             hands: _,
-            thread,
             bell: _,
         } = self;
-        (pump_in(rt, feed, pipe), thread)
+        pump_in(rt, feed, pipe)
     }
 
-    // Gives it to its thread.
-    fn run_there(self) -> Running
+    // Gives it to a thread.
+    fn run_there(self, thread: Worker<PumpJob>) -> Running
         ensures { (feed_of result.pump ≡ self.feed) × (input_of result.pump ≡ self.pipe) }
     {
         let Held {
             pipe,
             feed,
             hands,
-            thread,
             bell,
         } = self;
         let (job, pump) = hands.pump(pipe, feed);
@@ -88,38 +80,62 @@ pub(crate) struct Running {
 pub(crate) enum Input {
     Held(Held),
     Running(Running),
-    /// What it left was given up, and its thread waits, if it is still there.
+    /// What it left was given up, and its thread waits, if it had one that is still there.
     Ended(Option<Worker<PumpJob>>),
 }
 
 impl Input {
-    /// What the pump left, once it has ended, and only once. It doesn't wait.
-    pub fn done<R: Wait>(&mut self, rt: &R) -> Option<PumpDone<ChildInput>> {
+    /// What the pump left, once it has ended, and only once. It doesn't wait. Where there is something to move and no
+    /// thread for it, that is told, and tried again at the next look.
+    pub fn done<R: Wait, T: StartThread + Drop>(
+        &mut self,
+        rt: &R,
+        threads: &ThreadPool<T>,
+    ) -> Result<Option<PumpDone<ChildInput>>, SpawnFault> {
         match mem::replace(self, Input::Ended(None)) {
-            Input::Held(held) => self.look(rt, held),
-            Input::Running(running) => self.end(running),
+            Input::Held(held) => self.look(rt, threads, held),
+            Input::Running(running) => Ok(self.end(running)),
             Input::Ended(thread) => {
                 *self = Input::Ended(thread);
-                None
+                Ok(None)
             }
         }
     }
 
-    fn look<R: Wait>(&mut self, rt: &R, held: Held) -> Option<PumpDone<ChildInput>> {
+    fn look<R: Wait, T: StartThread + Drop>(
+        &mut self,
+        rt: &R,
+        threads: &ThreadPool<T>,
+        held: Held,
+    ) -> Result<Option<PumpDone<ChildInput>>, SpawnFault> {
         let mut held = held;
         match held.feed.look() {
             FeedLook::Nothing => {
                 *self = Input::Held(held);
-                None
+                Ok(None)
             }
             FeedLook::Bytes => {
-                *self = Input::Running(held.run_there());
-                None
+                self.begin(threads.take(rt), held)?;
+                Ok(None)
             }
-            FeedLook::Ended => {
-                let (done, thread) = held.run_here(rt);
-                *self = Input::Ended(Some(thread));
-                Some(done)
+            FeedLook::Ended => Ok(Some(held.run_here(rt))),
+        }
+    }
+
+    // Begins it in that thread, or keeps it where there is none.
+    fn begin(
+        &mut self,
+        thread: Result<Worker<PumpJob>, SpawnFault>,
+        held: Held,
+    ) -> Result<(), SpawnFault> {
+        match thread {
+            Ok(thread) => {
+                *self = Input::Running(held.run_there(thread));
+                Ok(())
+            }
+            Err(fault) => {
+                *self = Input::Held(held);
+                Err(fault)
             }
         }
     }
@@ -142,8 +158,7 @@ impl Input {
     /// Its thread, where that waits.
     pub fn into_worker(self) -> Option<Worker<PumpJob>> {
         match self {
-            Input::Held(held) => Some(held.thread),
-            Input::Running(_) => None,
+            Input::Held(_) | Input::Running(_) => None,
             Input::Ended(thread) => thread,
         }
     }

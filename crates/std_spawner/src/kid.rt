@@ -1,5 +1,6 @@
 // A real child.
-ghost use Rattle.std.specs.Prelude.{◌≡◌};
+ghost use Rattle.std.specs.Prelude.{◌≡◌, true, is_some};
+ghost use Rattle.std.specs.Process.{child_status};
 ghost use Rattle.host_base.specs.Outsides.{Rose};
 ghost use Rattle.child_edge.specs.Kids.{is_failed};
 
@@ -7,7 +8,8 @@ use super::input::Input;
 use super::job::PumpJob;
 use super::pace::Pace;
 use super::pipes::{ChildInput, ChildOutput};
-use child_edge::{Kid, Reap};
+use super::threads::{StartThread, ThreadPool};
+use child_edge::{Kid, Reap, SpawnFault};
 use pipe_pump::{PumpDone, PumpEnd};
 use pump_pool::{Busy, OutPump, Worker};
 use std::process::{Child, SystemProcess};
@@ -16,8 +18,9 @@ use std::time::Clock;
 
 /// A program that runs or has exited, its pumps and their threads.
 #[derive(Drop)]
-pub struct StdKid<R> {
+pub struct StdKid<R, T> {
     rt: R,
+    threads: ThreadPool<T>,
     process: Child<SystemProcess>,
     output: OutPump<ChildOutput>,
     output_thread: Busy<PumpJob>,
@@ -32,6 +35,8 @@ pub struct StdKid<R> {
     out_looks: u64,
     in_looks: u64,
     reap_looks: u64,
+    /// Of a program that was reaped the system told how it ended.
+    ghost told: { reaped ≡ true → is_some (child_status process) ≡ true },
 }
 
 fn one_more(count: u64) -> u64
@@ -49,7 +54,7 @@ fn has_failed(end: PumpEnd) -> bool
     }
 }
 
-impl<R: Wait + Clock> Kid for StdKid<R> {
+impl<R: Wait + Clock, T: StartThread + Drop> Kid for StdKid<R, T> {
     ghost use Rattle.std_spawner.specs.Kids.{kid_tells};
 
     type In = ChildInput;
@@ -77,7 +82,7 @@ impl<R: Wait + Clock> Kid for StdKid<R> {
         if self.in_end.is_some() {
             return None;
         }
-        let done = self.input.done(&self.rt)?;
+        let done = self.look_input()?;
         if has_failed(done.end) {
             self.faults = one_more(self.faults);
         }
@@ -114,14 +119,14 @@ impl<R: Wait + Clock> Kid for StdKid<R> {
     }
 }
 
-impl<R> StdKid<R> {
+impl<R, T> StdKid<R, T> {
     ghost use Rattle.std.specs.Prelude.{◌≡◌};
-    ghost use Rattle.child_edge.specs.Kids.{IsOpenKid};
     ghost use Rattle.pump_pool.specs.Pumps.{ring_of};
     ghost use Rattle.std_spawner.specs.Kids.{IsNewStdKid};
 
     pub(crate) fn new(
         rt: R,
+        threads: ThreadPool<T>,
         process: Child<SystemProcess>,
         output: OutPump<ChildOutput>,
         output_thread: Busy<PumpJob>,
@@ -131,6 +136,7 @@ impl<R> StdKid<R> {
     {
         StdKid {
             rt,
+            threads,
             process,
             output,
             output_thread,
@@ -147,8 +153,26 @@ impl<R> StdKid<R> {
     }
 }
 
-impl<R: Wait + Clock + Drop> StdKid<R> {
-    ghost use Rattle.std.specs.Prelude.{◌≡◌, true};
+impl<R: Wait, T: StartThread + Drop> StdKid<R, T> {
+    ghost use Rattle.std_spawner.specs.Kids.{SameButInput};
+
+    // Looks at the pump of its input. That no thread was to be had for it is counted.
+    fn look_input(&mut self) -> Option<PumpDone<ChildInput>>
+        ensures same { SameButInput self.old self.new }
+    {
+        match self.input.done(&self.rt, &self.threads) {
+            Ok(done) => done,
+            Err(SpawnFault::NoMemory) => None,
+            Err(SpawnFault::Failed) => {
+                self.faults = one_more(self.faults);
+                None
+            }
+        }
+    }
+}
+
+impl<R: Wait + Clock + Drop, T: StartThread + Drop> StdKid<R, T> {
+    ghost use Rattle.std.specs.Prelude.{◌≡◌};
 
     /// Kills and reaps a program that was not reaped, and answers whether it is gone then.
     pub(crate) fn end(&mut self) -> bool
@@ -160,13 +184,14 @@ impl<R: Wait + Clock + Drop> StdKid<R> {
         self.reaped
     }
 
-    /// Its threads that wait. Another ends with its pump.
-    pub(crate) fn into_workers(self) -> (Option<Worker<PumpJob>>, Option<Worker<PumpJob>>) {
+    /// Gives its threads that wait back to their pool. Another ends with its pump.
+    pub(crate) fn give_back(self) {
         let mut kid = self;
         kid.out_done();
         kid.in_done();
         let StdKid {
-            rt: _,
+            rt,
+            threads,
             process: _,
             output: _,
             output_thread,
@@ -180,17 +205,27 @@ impl<R: Wait + Clock + Drop> StdKid<R> {
             in_looks: _,
             reap_looks: _,
         } = kid;
-        let output = if out_end.is_some() {
-            output_thread.worker()
-        } else {
-            None
-        };
-        (output, input.into_worker())
+        if out_end.is_some() {
+            give_one(&rt, &threads, output_thread.worker());
+        }
+        give_one(&rt, &threads, input.into_worker());
+    }
+}
+
+fn give_one<R: Wait, T: StartThread + Drop>(
+    rt: &R,
+    threads: &ThreadPool<T>,
+    thread: Option<Worker<PumpJob>>,
+) {
+    if let Some(thread) = thread {
+        threads.put(rt, thread);
     }
 }
 
 /// Kills and reaps a program, and answers whether it is gone then.
-pub(crate) fn end_process(process: &mut Child<SystemProcess>) -> bool {
+pub(crate) fn end_process(process: &mut Child<SystemProcess>) -> bool
+    ensures { result ≡ true → is_some (child_status process.new) ≡ true }
+{
     let _ = process.kill();
     process.wait().is_ok()
 }

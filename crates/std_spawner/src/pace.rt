@@ -1,17 +1,22 @@
 // When a child is asked for its exit.
 use std::time::{Clock, Duration};
 
-// The shortest and the longest distance between two asks, in microseconds. A small program closes its output some tens
-// of them before it can be reaped.
-const LEAST: u64 = 100;
+// How often a child that is to leave is asked with no distance. A small program closes its output some tens of
+// microseconds before it can be reaped.
+const SOON: u64 = 16;
+
+// The shortest and the longest distance between two asks, in microseconds.
+const LEAST: u64 = 50;
 
 const MOST: u64 = 100_000;
 
-/// While a child is at work it is asked once in the longest distance. Once it is to leave, it is asked at once,
-/// and then at distances that grow from the shortest to the longest.
+/// While a child is at work it is asked once in the longest distance. Once it is to leave, it is asked at each of the
+/// next looks, and then at distances that grow from the shortest to the longest.
 #[derive(Drop)]
 pub struct Pace {
     is_leaving: bool,
+    /// How often it is still asked with no distance.
+    soon: u64,
     /// Microseconds.
     distance: u64,
     /// What the clock is to show before the next ask.
@@ -22,6 +27,7 @@ impl Pace {
     pub fn new() -> Self {
         Pace {
             is_leaving: false,
+            soon: 0,
             distance: MOST,
             next: Duration::from_millis(0),
         }
@@ -31,6 +37,7 @@ impl Pace {
     pub fn leave(&mut self) {
         if !self.is_leaving {
             self.is_leaving = true;
+            self.soon = SOON;
             self.distance = LEAST;
             self.next = Duration::from_millis(0);
         }
@@ -38,6 +45,10 @@ impl Pace {
 
     /// Whether it is to be asked now. Where the clock doesn't tell, it is.
     pub fn is_due<R: Clock>(&mut self, rt: &R) -> bool {
+        if self.soon > 0 {
+            self.soon -= 1;
+            return true;
+        }
         let Ok(now) = rt.monotonic() else {
             return true;
         };

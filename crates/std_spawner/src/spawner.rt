@@ -9,11 +9,11 @@ use super::input::{Held, Input};
 use super::job::{Pump, PumpJob};
 use super::kid::{StdKid, end_process};
 use super::pipes::{ChildInput, ChildOutput, StandardInput};
-use super::threads::{IdleThreads, StartThread};
+use super::threads::{StartThread, ThreadPool};
 use child_edge::{SpawnFault, Spawner};
 use host_base::{Launch, NoMemory};
 use pipe_pump::{FeedRing, PumpRing};
-use pump_pool::{InHands, OutHands, OutPump, Worker};
+use pump_pool::{Busy, InHands, OutHands, OutPump, Worker};
 use std::alloc::Global;
 use std::io::Stdin;
 use std::process::{Child, ChildStdin, ChildStdout, Processes, SystemProcess};
@@ -30,17 +30,18 @@ struct Pumps {
     output_hands: OutHands<ChildOutput>,
     input_hands: InHands<ChildInput>,
     output_thread: Worker<PumpJob>,
-    input_thread: Worker<PumpJob>,
 }
 
-/// Starts programs of the system. The pumps of a child run in threads of its own; idle threads are used again,
-/// and a bounded number of them is kept.
+/// Starts programs of the system. The pumps of a child run in threads of its own, that of its input once there is
+/// something to move; idle threads are used again, and a bounded number of them is kept.
 #[derive(Drop)]
 pub struct StdSpawner<R, T> {
     rt: R,
     alloc: Global,
     bell: Bell,
-    threads: IdleThreads<T>,
+    threads: ThreadPool<T>,
+    /// The thread of the pump of standard input, if there is one.
+    client: Option<Busy<PumpJob>>,
     faults: u64,
 }
 
@@ -53,17 +54,14 @@ impl<R: Drop, T: StartThread + Drop> StdSpawner<R, T> {
             rt,
             alloc,
             bell,
-            threads: IdleThreads::new(alloc, starter, idle)?,
+            threads: ThreadPool::new(alloc, starter, idle)?,
+            client: None,
             faults: 0,
         })
     }
 
     // Four bells, and room for the ends of two pumps.
-    fn pumps_of(
-        &self,
-        output_thread: Worker<PumpJob>,
-        input_thread: Worker<PumpJob>,
-    ) -> Result<Pumps, NoMemory> {
+    fn pumps_of(&self, output_thread: Worker<PumpJob>) -> Result<Pumps, NoMemory> {
         Ok(Pumps {
             output_bell: self.bell.another()?,
             output_end_bell: self.bell.another()?,
@@ -72,34 +70,48 @@ impl<R: Drop, T: StartThread + Drop> StdSpawner<R, T> {
             output_hands: OutHands::new(self.alloc)?,
             input_hands: InHands::new(self.alloc)?,
             output_thread,
-            input_thread,
         })
-    }
-
-    // All that the pumps of a child need, so that a child which was started always has its pumps.
-    fn pumps(&mut self) -> Result<Pumps, SpawnFault>
-        ensures { self.new.faults ≡ self.old.faults }
-    {
-        let output_thread = self.threads.take()?;
-        let input_thread = match self.threads.take() {
-            Ok(thread) => thread,
-            Err(fault) => {
-                self.threads.put(output_thread);
-                return Err(fault);
-            }
-        };
-        match self.pumps_of(output_thread, input_thread) {
-            Ok(pumps) => Ok(pumps),
-            Err(_) => Err(SpawnFault::NoMemory),
-        }
     }
 }
 
-impl<R: Drop, T: StartThread + Drop> StdSpawner<R, T> {
+impl<R: Wait + Drop, T: StartThread + Drop> StdSpawner<R, T> {
     ghost use Rattle.std.specs.Prelude.{◌≡◌, ◌≤◌, IfOk};
     ghost use Rattle.host_base.specs.Outsides.{Rose};
     ghost use Rattle.pipe_pump.specs.Rings.{IsFreshRing};
     ghost use Rattle.pump_pool.specs.Pumps.{ring_of};
+
+    // The thread of standard input, where that has ended.
+    fn rested_client(&mut self) -> Option<Worker<PumpJob>>
+        ensures { self.new ≡ record self.old { client = self.new.client } }
+    {
+        let client = self.client.take()?;
+        if client.rests() {
+            return client.worker();
+        }
+        self.client = Some(client);
+        None
+    }
+
+    // A thread that waits, or else a new one.
+    fn thread(&mut self) -> Result<Worker<PumpJob>, SpawnFault>
+        ensures { self.new ≡ record self.old { client = self.new.client } }
+    {
+        match self.rested_client() {
+            Some(thread) => Ok(thread),
+            None => self.threads.take(&self.rt),
+        }
+    }
+
+    // All that the pumps of a child need, so that the output of a child which was started always has its pump.
+    fn pumps(&mut self) -> Result<Pumps, SpawnFault>
+        ensures { self.new ≡ record self.old { client = self.new.client } }
+    {
+        let thread = self.thread()?;
+        match self.pumps_of(thread) {
+            Ok(pumps) => Ok(pumps),
+            Err(_) => Err(SpawnFault::NoMemory),
+        }
+    }
 
     // A thread, a bell for its pump and one for the pump's end, and room for that end.
     fn begin_input(
@@ -111,21 +123,21 @@ impl<R: Drop, T: StartThread + Drop> StdSpawner<R, T> {
         ensures pump { IfOk result (λ pump. ring_of pump ≡ ring) }
         ensures count { self.new.faults ≡ self.old.faults }
     {
-        let thread = self.threads.take()?;
+        let thread = self.thread()?;
         let (Ok(bell), Ok(end_bell), Ok(hands)) = (
             self.bell.another(),
             self.bell.another(),
             OutHands::new(self.alloc),
         ) else {
-            self.threads.put(thread);
+            self.threads.put(&self.rt, thread);
             return Err(SpawnFault::NoMemory);
         };
         let (job, pump) = hands.pump(StandardInput::new(input, bell), ring);
-        let _busy = thread.give(PumpJob::new(Pump::Client(job), end_bell));
+        self.client = Some(thread.give(PumpJob::new(Pump::Client(job), end_bell)));
         Ok(pump)
     }
 
-    /// Starts a pump from standard input to a ring. Its thread is not used again.
+    /// Starts a pump from standard input to a ring. Once it has ended, its thread is used for a child.
     pub fn read_input(
         &mut self,
         input: Stdin,
@@ -155,7 +167,10 @@ fn take_pipes(process: &mut Child<SystemProcess>) -> Result<(ChildStdin, ChildSt
     }
 }
 
-impl<R: Processes<Started = SystemProcess> + Copy + Drop, T: StartThread + Drop> StdSpawner<R, T> {
+impl<R: Processes<Started = SystemProcess> + Wait + Copy + Drop, T: StartThread + Drop> StdSpawner<
+    R,
+    T,
+> {
     ghost use Rattle.std.specs.Prelude.{◌≡◌, IfOk};
     ghost use Rattle.pipe_pump.specs.Rings.{IsFreshRing, IsFreshFeed};
     ghost use Rattle.std_spawner.specs.Kids.{IsNewStdKid};
@@ -165,18 +180,20 @@ impl<R: Processes<Started = SystemProcess> + Copy + Drop, T: StartThread + Drop>
         launch: &Launch,
         ring: PumpRing,
         feed: FeedRing,
-    ) -> Result<StdKid<R>, SpawnFault>
+    ) -> Result<StdKid<R, T>, SpawnFault>
         requires ring { IsFreshRing ring }
         requires feed { IsFreshFeed feed }
         ensures kid { IfOk result (IsNewStdKid ring) }
         ensures count { self.new.faults ≡ self.old.faults }
     {
+        let Ok(threads) = self.threads.another() else {
+            return Err(SpawnFault::NoMemory);
+        };
         let pumps = self.pumps()?;
         match spawn(&self.rt, self.alloc, launch) {
-            Ok(process) => join(self.rt, process, pumps, ring, feed),
+            Ok(process) => join(self.rt, threads, process, pumps, ring, feed),
             Err(fault) => {
-                self.threads.put(pumps.output_thread);
-                self.threads.put(pumps.input_thread);
+                threads.put(&self.rt, pumps.output_thread);
                 Err(fault)
             }
         }
@@ -184,13 +201,14 @@ impl<R: Processes<Started = SystemProcess> + Copy + Drop, T: StartThread + Drop>
 }
 
 // A program and its pumps. That of its output begins at once.
-fn join<R: Drop>(
+fn join<R: Drop, T: Drop>(
     rt: R,
+    threads: ThreadPool<T>,
     process: Child<SystemProcess>,
     pumps: Pumps,
     ring: PumpRing,
     feed: FeedRing,
-) -> Result<StdKid<R>, SpawnFault>
+) -> Result<StdKid<R, T>, SpawnFault>
     requires ring { IsFreshRing ring }
     requires feed { IsFreshFeed feed }
     ensures kid { IfOk result (IsNewStdKid ring) }
@@ -205,7 +223,6 @@ fn join<R: Drop>(
         output_hands,
         input_hands,
         output_thread,
-        input_thread,
     } = pumps;
     let (job, pump) = output_hands.pump(ChildOutput::new(output, output_bell), ring);
     let job = PumpJob::new(Pump::Output(job), output_end_bell);
@@ -213,11 +230,11 @@ fn join<R: Drop>(
         ChildInput::new(input, input_bell),
         feed,
         input_hands,
-        input_thread,
         input_end_bell,
     );
     Ok(StdKid::new(
         rt,
+        threads,
         process,
         pump,
         output_thread.give(job),
@@ -229,7 +246,7 @@ impl<
     R: Processes<Started = SystemProcess> + Wait + Clock + Copy + Drop,
     T: StartThread + Drop,
 > Spawner for StdSpawner<R, T> {
-    type Kid = StdKid<R>;
+    type Kid = StdKid<R, T>;
 
     ghost faults = { λ s. s.faults };
 
@@ -238,7 +255,7 @@ impl<
         launch: &Launch,
         ring: PumpRing,
         feed: FeedRing,
-    ) -> Result<StdKid<R>, SpawnFault> {
+    ) -> Result<StdKid<R, T>, SpawnFault> {
         let started = self.start_kid(launch, ring, feed);
         if let Err(SpawnFault::Failed) = &started {
             self.faults = self.faults.saturating_add(1);
@@ -246,17 +263,11 @@ impl<
         started
     }
 
-    fn take_back(&mut self, kid: StdKid<R>) {
+    fn take_back(&mut self, kid: StdKid<R, T>) {
         let mut kid = kid;
         if !kid.end() {
             self.faults = self.faults.saturating_add(1);
         }
-        let (output, input) = kid.into_workers();
-        if let Some(thread) = output {
-            self.threads.put(thread);
-        }
-        if let Some(thread) = input {
-            self.threads.put(thread);
-        }
+        kid.give_back();
     }
 }

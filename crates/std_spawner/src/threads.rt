@@ -1,11 +1,12 @@
 // The threads that wait for a pump.
-ghost use Rattle.std.specs.Prelude.{◌≡◌};
+ghost use Rattle.std.specs.Prelude.{◌≡◌, ◌≤◌, vec_len, vec_capacity};
 
 use super::job::PumpJob;
 use child_edge::SpawnFault;
 use host_base::NoMemory;
 use pump_pool::{Station, Worker};
 use std::alloc::Global;
+use std::sync::{Arc, Mutex, Wait};
 
 /// Starts threads. A method of a trait can't, so what does is brought along by whoever has the handle for threads.
 pub trait StartThread {
@@ -35,26 +36,27 @@ impl StartThread for ThreadStarter {
     }
 }
 
-/// The threads that wait for a pump.
+/// The threads that have nothing to do, and what starts one.
 #[derive(Drop)]
 pub(crate) struct IdleThreads<T> {
     starter: T,
     alloc: Global,
     idle: Vec<Worker<PumpJob>>,
+    /// How many are kept at most.
+    most: usize,
+    ghost bounded: { vec_len idle ≤ most },
+    ghost room: { most ≤ vec_capacity idle },
 }
 
-impl<T: StartThread + Drop> IdleThreads<T> {
-    /// None yet; at most so many are kept.
-    pub fn new(alloc: Global, starter: T, most: usize) -> Result<Self, NoMemory> {
-        Ok(IdleThreads {
-            starter,
-            alloc,
-            idle: Vec::with_capacity(alloc, most)?,
-        })
-    }
+impl<T: StartThread> IdleThreads<T> {
+    ghost use Rattle.std.specs.Prelude.{◌≡◌, ◌≤◌, ◌<◌, ◌++◌, ◌∷◌, [], IfOk, IsOk, vec_len};
 
-    /// One that waits, or else a new one.
-    pub fn take(&mut self) -> Result<Worker<PumpJob>, SpawnFault> {
+    // One that waits, or else a new one.
+    fn take(&mut self) -> Result<Worker<PumpJob>, SpawnFault>
+        ensures waits { 0 < vec_len self.old.idle → IfOk result (λ w. self.old.idle.items ≡ self.new.idle.items ++ w ∷ []) }
+        ensures succeeds { 0 < vec_len self.old.idle → IsOk result }
+        ensures new { vec_len self.old.idle ≡ 0 → self.new.idle.items ≡ self.old.idle.items }
+    {
         if let Some(worker) = self.idle.pop() {
             return Ok(worker);
         }
@@ -68,10 +70,51 @@ impl<T: StartThread + Drop> IdleThreads<T> {
         }
     }
 
-    /// Takes back one that waits, where not as many are kept as may. Otherwise it ends.
-    pub fn put(&mut self, worker: Worker<PumpJob>) {
-        if self.idle.len() < self.idle.capacity() {
+    // Takes back one that waits, where not as many are kept as may. Otherwise it ends.
+    fn put(&mut self, worker: Worker<PumpJob>)
+        ensures kept { vec_len self.old.idle < self.old.most → self.new.idle.items ≡ self.old.idle.items ++ worker ∷ [] }
+        ensures full { self.old.most ≤ vec_len self.old.idle → self.new.idle.items ≡ self.old.idle.items }
+    {
+        if self.idle.len() < self.most {
             let _ = self.idle.push(worker);
         }
+    }
+}
+
+/// The threads that wait for a pump. What starts children and the children share them, all in one loop.
+#[derive(Drop)]
+pub(crate) struct ThreadPool<T> {
+    shared: Arc<Mutex<IdleThreads<T>>>,
+}
+
+impl<T: StartThread + Drop> ThreadPool<T> {
+    /// None yet; at most so many are kept that have nothing to do.
+    pub fn new(alloc: Global, starter: T, most: usize) -> Result<Self, NoMemory> {
+        let threads = IdleThreads {
+            starter,
+            alloc,
+            idle: Vec::with_capacity(alloc, most)?,
+            most,
+        };
+        Ok(ThreadPool {
+            shared: Arc::new(alloc, Mutex::new(threads))?,
+        })
+    }
+
+    /// The same threads.
+    pub fn another(&self) -> Result<Self, NoMemory> {
+        Ok(ThreadPool {
+            shared: self.shared.clone()?,
+        })
+    }
+
+    /// One that waits, or else a new one.
+    pub fn take<R: Wait>(&self, rt: &R) -> Result<Worker<PumpJob>, SpawnFault> {
+        self.shared.lock(rt).take()
+    }
+
+    /// Takes back one that waits, where not as many are kept as may. Otherwise it ends.
+    pub fn put<R: Wait>(&self, rt: &R, worker: Worker<PumpJob>) {
+        self.shared.lock(rt).put(worker);
     }
 }

@@ -1,7 +1,7 @@
 use denote.Param.Send.{sendable}
 use Rattle.std.proofs.Crossing.{crosses}
-use Rattle.std_spawner.proofs.Crosses.{belled_send}
-use Rattle.once_edge.proofs.Crosses.{once_send, spawner_send, kid_send}
+use Rattle.std_spawner.proofs.Crosses.{belled_send, spawner_send, kid_send}
+use Rattle.once_edge.proofs.Crosses.{once_send}
 use Rattle.cgihost.proofs.run_in.Goals as goal
 
 pub run-requires-send-W-Out : goal.run-requires-send-W-Out

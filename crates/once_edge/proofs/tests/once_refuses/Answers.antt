@@ -1,7 +1,7 @@
 use denote.Param.Send.{sendable}
 use Rattle.std.proofs.Crossing.{crosses}
-use Rattle.std_spawner.proofs.Crosses.{belled_send}
-use Rattle.once_edge.proofs.Crosses.{once_send, spawner_send, kid_send}
+use Rattle.std_spawner.proofs.Crosses.{belled_send, spawner_send, kid_send}
+use Rattle.once_edge.proofs.Crosses.{once_send}
 use Rattle.once_edge.proofs.tests.once_refuses.Goals as goal
 
 pub refuses-requires-send-W-Out : goal.refuses-requires-send-W-Out

@@ -7,5 +7,9 @@ pub returns-in-Ok-clause-limit : goal.returns-in-Ok-clause-limit
 returns-in-Ok-clause-limit g c =
     all_only (λ o. o.limit ≡ c.args.site.now.limits.children) _ _ _ c.in-Ok.ensures.items c.new-outs.ensures.items c.in_ok-outside.ensures.limit
 
+pub returns-in-Ok-clause-room : goal.returns-in-Ok-clause-room
+returns-in-Ok-clause-room g c =
+    all_only (λ o. o.room ≡ c.args.site.now.limits.connections) _ _ _ c.in-Ok.ensures.items c.new-outs.ensures.items c.in_ok-outside.ensures.room
+
 pub returns-in-Ok-clause-fresh : goal.returns-in-Ok-clause-fresh
 returns-in-Ok-clause-fresh g c = all_only IsFresh _ _ _ c.in-Ok.ensures.items c.new-outs.ensures.items c.in_ok-outside.ensures.fresh
