@@ -1,5 +1,5 @@
 -- What a loop's children with their tickets answer.
-use Rattle.std.specs.Prelude.{◌≡◌, ◌⊎◌, ℕ, Bool, true, false, List, []}
+use Rattle.std.specs.Prelude.{◌≡◌, ◌⊎◌, ℕ, Bool, true, false, ◌&&◌, if◌then◌else◌, ◌==◌, ◌+◌, ◌<◌, ⊤, List, [], count_by}
 use Rattle.host_trace.specs.declared.items.Act.{Act}
 use Rattle.host_trace.specs.declared.items.Act.TheVariants.{Feed, EndInput, WantChild, Kill, Release}
 use Rattle.host_trace.specs.declared.items.Event.{Event}
@@ -10,12 +10,26 @@ use Rattle.child_edge.specs.declared.kid.SpawnFault.{SpawnFault}
 use Rattle.child_edge.specs.declared.kid.SpawnFault.TheVariants.{Failed, NoMemory}
 use Rattle.child_edge.specs.Kids.{KidTells}
 use Rattle.child_edge.specs.declared.row.Row.{Row}
-use Rattle.child_edge.specs.Rows.{OnKept, Feeds, Changes, Releases, StartsRow, want_marks, end_marks, kept}
+use Rattle.child_edge.specs.Rows.{OnKept, Feeds, Changes, Releases, StartsRow, want_marks, end_marks, kept, runs}
+use Rattle.booked_children.specs.declared.tickets.Held.{Held}
 
--- how many children an event says to have exited
-abbrev pub exits : Event → ℕ
-exits (Exited k) = 1
-exits _ = 0
+-- how many children whose numbers pass a test an event says to have exited
+abbrev pub exits_of : (ℕ → Bool) → Event → ℕ
+exits_of t (Exited k) = if t k then 1 else 0
+exits_of t _ = 0
+
+-- how many tickets are of children whose numbers pass
+abbrev pub tickets_of : (ℕ → Bool) → List Held → ℕ
+tickets_of t tickets = count_by (λ h. t h.k) tickets
+
+-- where the event is an exit, the child has a ticket
+abbrev pub HasTicket : Event → List Held → Type 0
+HasTicket (Exited k) tickets = 0 < tickets_of (λ j. j == k) tickets
+HasTicket _ tickets = ⊤
+
+-- the ticket of each child that exited was spent, and no other
+pub record Spends (event : Event) (old new : List Held) : Type 0 where
+  pub each : (t : ℕ → Bool) → tickets_of t new + exits_of t event ≡ tickets_of t old
 
 -- no memory was found to start a program
 abbrev pub is_memory : SpawnFault → Bool
@@ -28,6 +42,14 @@ added bytes Done = bytes
 added bytes HasNoRoom = []
 
 module _ {K : Type 0} where
+  -- how many children run whose numbers pass
+  abbrev pub running_of : (ℕ → Bool) → List (Row K) → ℕ
+  running_of t rows = count_by (λ r. runs r && t r.k) rows
+
+  -- each child that runs has its ticket, and there is no other: whichever numbers are looked at
+  pub record HaveTickets (tickets : List Held) (rows : List (Row K)) : Type 0 where
+    pub each : (t : ℕ → Bool) → tickets_of t tickets ≡ running_of t rows
+
   -- no child was started
   abbrev pub StartsNone : List (Row K) → List (Row K) → Type 0
   StartsNone rows now = (now ≡ rows) ⊎ (now ≡ kept rows)

@@ -1,7 +1,7 @@
 // The children of a loop and their tickets.
-ghost use Rattle.std.specs.Prelude.{◌≡◌, ◌≤◌, if◌then◌else◌, false, vec_len, count_by};
-ghost use Rattle.child_edge.specs.Rows.{EachSound, runs};
-ghost use Rattle.booked_children.specs.Booked.{is_memory};
+ghost use Rattle.std.specs.Prelude.{◌≡◌, ◌≤◌, if◌then◌else◌, false, vec_len};
+ghost use Rattle.child_edge.specs.Rows.{EachSound};
+ghost use Rattle.booked_children.specs.Booked.{HaveTickets, is_memory};
 ghost use Rattle.host_base.specs.Outsides.{Rose};
 ghost use Rattle.host_trace.specs.Told as told;
 
@@ -14,8 +14,8 @@ use host_trace::{Act, Acted, Event};
 use std::alloc::Global;
 use std::sync::{Arc, Mutex, Wait};
 
-/// The children of a loop. Between any two calls as many run as it holds tickets, and as its share of the book's
-/// ledger says. It can't be dropped: `end` ends the children and spends the tickets.
+/// The children of a loop. Between any two calls each child that runs has its ticket, there are no other tickets, and
+/// there are as many as its share of the book's ledger says. It can't be dropped: `end` ends the children and spends the tickets.
 pub struct BookedChildren<S: Spawner, L: Ledger, R> {
     rt: R,
     book: Arc<Mutex<Book<L>>>,
@@ -26,7 +26,7 @@ pub struct BookedChildren<S: Spawner, L: Ledger, R> {
     faults: u64,
     ghost one_part: { share.parts ≡ 1 },
     ghost held: { share.amount ≡ vec_len tickets },
-    ghost counted: { count_by runs set.rows.items ≡ vec_len tickets },
+    ghost matched: { HaveTickets tickets.items set.rows.items },
     ghost sound: { EachSound S.Kid.tells set.rows.items },
 }
 
@@ -62,7 +62,7 @@ impl<S: Spawner + Drop, L: Ledger, R: Wait + Drop> BookedChildren<S, L, R> {
     ghost use Rattle.booked_children.specs.Booked.{Begins, ChildrenDo};
 
     /// Children of which none was started, with one part of the ledger.
-    #[tactic(auto, using(crate::proofs::Sounds::each_none))]
+    #[tactic(auto, using(crate::proofs::Sounds::each_none, crate::proofs::Matches::have_none))]
     pub fn new(
         rt: R,
         alloc: Global,
@@ -89,7 +89,7 @@ impl<S: Spawner + Drop, L: Ledger, R: Wait + Drop> BookedChildren<S, L, R> {
 
     /// Starts child k of connection c, where the book has a place for it. Want of memory is told as NoRoom of the
     /// connection, and then `fail` is to tell that the child was not started.
-    #[tactic(auto, using(crate::proofs::Counts::runs_kept, crate::proofs::Counts::runs_more, crate::proofs::Sounds::each_all, crate::proofs::Sounds::all_each))]
+    #[tactic(auto, using(crate::proofs::Matches::have_same, crate::proofs::Matches::have_kept, crate::proofs::Matches::have_more, crate::proofs::Sounds::each_all, crate::proofs::Sounds::all_each))]
     pub fn begin(&mut self, k: u64, c: u64, launch: &Launch) -> Event
         ensures begins { Begins S.Kid.tells k c result self.old.set.rows.items self.new.set.rows.items }
         ensures faults { self.old.faults ≤ self.new.faults }
@@ -139,7 +139,7 @@ impl<S: Spawner + Drop, L: Ledger, R: Wait + Drop> BookedChildren<S, L, R> {
     }
 
     /// One event of a child, if there is any to tell.
-    #[tactic(auto, using(crate::proofs::Counts::runs_told, crate::proofs::Counts::runs_quiet, crate::proofs::Sounds::each_all, crate::proofs::Sounds::all_each))]
+    #[tactic(auto, using(crate::proofs::Matches::has_ticket, crate::proofs::Matches::have_told, crate::proofs::Matches::have_quiet, crate::proofs::Sounds::each_all, crate::proofs::Sounds::all_each))]
     pub fn poll(&mut self) -> Option<Event>
         ensures some { IfSome result (λ event. OneSays S.Kid.tells event (kept self.old.set.rows.items) self.new.set.rows.items) }
         ensures none { IsNone result → Each (IsQuiet S.Kid.tells) (kept self.old.set.rows.items) self.new.set.rows.items }
@@ -157,9 +157,7 @@ impl<S: Spawner + Drop, L: Ledger, R: Wait + Drop> BookedChildren<S, L, R> {
             faults,
         } = self;
         let event = set.poll()?;
-        if let Event::Exited { k } = &event {
-            tickets::reap(rt, &**book, share, tickets, *k);
-        }
+        tickets::settle(rt, &**book, share, tickets, &event);
         if is_failure(&event) {
             *faults = faults.saturating_add(1);
         }
@@ -167,9 +165,10 @@ impl<S: Spawner + Drop, L: Ledger, R: Wait + Drop> BookedChildren<S, L, R> {
     }
 
     /// Does an act on a child that is kept. Others do nothing.
-    #[tactic(auto, using(crate::proofs::Counts::runs_fed, crate::proofs::Counts::runs_wanted, crate::proofs::Counts::runs_ended, crate::proofs::Counts::runs_killed, crate::proofs::Counts::runs_released, crate::proofs::Sounds::each_all, crate::proofs::Sounds::all_each))]
+    #[tactic(auto, using(crate::proofs::Matches::have_fed, crate::proofs::Matches::have_wanted, crate::proofs::Matches::have_ended, crate::proofs::Matches::have_killed, crate::proofs::Matches::have_released, crate::proofs::Sounds::each_all, crate::proofs::Sounds::all_each))]
     pub fn act(&mut self, act: &Act) -> Acted
         ensures does { ChildrenDo S.Kid.tells act.now result self.old.set.rows.items self.new.set.rows.items }
+        ensures room { told.carries_nothing act.now ≡ true → result ≡ Acted.Done }
         ensures counts { (self.new.faults ≡ self.old.faults) × (self.new.full ≡ self.old.full) }
     {
         match act {
@@ -188,6 +187,7 @@ impl<S: Spawner + Drop, L: Ledger, R: Wait + Drop> BookedChildren<S, L, R> {
     }
 
     /// How many children run, as far as was told: as many as there are tickets.
+    #[tactic(auto, using(crate::proofs::Matches::have_all))]
     pub fn running(&self) -> usize
         ensures exact { result ≡ count_by runs self.now.set.rows.items }
         ensures held { result ≡ vec_len self.now.tickets }
@@ -226,7 +226,7 @@ impl<S: Spawner + Drop, L: Ledger, R: Wait + Drop> BookedChildren<S, L, R> {
         let mut set = set;
         set.end();
         let mut share = share;
-        tickets::reap_all(&rt, &*book, &mut share, tickets);
+        tickets::reap_all(&rt, &*book, &mut share, tickets, &set);
         share
     }
 }

@@ -1,8 +1,13 @@
 // The tickets of one loop: what it does under the book's lock.
-ghost use Rattle.std.specs.Prelude.{◌≡◌, ◌+◌, ◌<◌, length, vec_len, vec_capacity};
+ghost use Rattle.std.specs.Prelude.{◌≡◌, ◌==◌, ◌+◌, ◌<◌, [], length, slice_index_or, vec_len, vec_capacity};
 ghost use Rattle.child_book.specs.Admitted.{granted};
+ghost use Rattle.booked_children.specs.Booked.{HasTicket, Spends, tickets_of};
+ghost use Rattle.booked_children.specs.declared.tickets.Held.{Held};
+ghost use Rattle.host_trace.specs.declared.items.Event.TheVariants.{Exited};
 
 use child_book::{Admit, Book, Ledger, Share, Ticket};
+use child_edge::{ChildSet, Spawner};
+use host_trace::Event;
 use std::sync::{Mutex, Wait};
 
 /// A ticket, and the child that runs by it.
@@ -13,7 +18,9 @@ pub struct Held {
 }
 
 impl Held {
-    pub(crate) fn new(k: u64, ticket: Ticket) -> Self {
+    pub(crate) fn new(k: u64, ticket: Ticket) -> Self
+        ensures { result.k ≡ k }
+    {
         Held { k, ticket }
     }
 }
@@ -45,50 +52,73 @@ pub(crate) fn give_back<L: Ledger, R: Wait>(
     book.lock(rt).reap(share, ticket)
 }
 
-// Where the ticket of child k stands, or the last one.
+// Where a ticket of child k stands.
 fn place_of(tickets: &[Held], k: u64) -> usize
-    requires { 0 < length tickets.now }
-    ensures { result < length tickets.now }
+    requires { 0 < tickets_of (λ j. j == k) tickets.now }
+    ensures within { result < length tickets.now }
+    ensures child { (d : Held) → (slice_index_or tickets.now result d).k ≡ k }
 {
     for i in 0..tickets.len() {
         if tickets[i].k == k {
             return i;
         }
     }
-    tickets.len() - 1
+    unreachable!()
 }
 
-/// Spends the ticket of child `k`, which exited.
-pub(crate) fn reap<L: Ledger, R: Wait>(
+// Spends the ticket of child k.
+fn reap<L: Ledger, R: Wait>(
     rt: &R,
     book: &Mutex<Book<L>>,
     share: &mut Share<L>,
     tickets: &mut Vec<Held>,
     k: u64,
 )
-    requires some { 0 < vec_len tickets.old }
+    requires some { 0 < tickets_of (λ j. j == k) tickets.old.items }
     requires held { share.old.amount ≡ vec_len tickets.old }
     ensures held { share.new.amount ≡ vec_len tickets.new }
-    ensures spent { vec_len tickets.new + 1 ≡ vec_len tickets.old }
+    ensures spent { Spends (Exited k) tickets.old.items tickets.new.items }
     ensures parts { share.new.parts ≡ share.old.parts }
-    ensures room { vec_capacity tickets.new ≡ vec_capacity tickets.old }
 {
     let at = place_of(tickets.as_slice(), k);
     let Held { k: _, ticket } = tickets.swap_remove(at);
     give_back(rt, book, share, ticket);
 }
 
-/// Spends all tickets.
-pub(crate) fn reap_all<L: Ledger, R: Wait>(
+/// Spends the ticket of a child, where the event is that it exited.
+pub(crate) fn settle<L: Ledger, R: Wait>(
+    rt: &R,
+    book: &Mutex<Book<L>>,
+    share: &mut Share<L>,
+    tickets: &mut Vec<Held>,
+    event: &Event,
+)
+    requires some { HasTicket event.now tickets.old.items }
+    requires held { share.old.amount ≡ vec_len tickets.old }
+    ensures held { share.new.amount ≡ vec_len tickets.new }
+    ensures spent { Spends event.now tickets.old.items tickets.new.items }
+    ensures parts { share.new.parts ≡ share.old.parts }
+{
+    match event {
+        Event::Exited { k } => reap(rt, book, share, tickets, *k),
+        _ => {}
+    }
+}
+
+/// Spends all tickets of children of whom none is left.
+pub(crate) fn reap_all<L: Ledger, R: Wait, S: Spawner>(
     rt: &R,
     book: &Mutex<Book<L>>,
     share: &mut Share<L>,
     tickets: Vec<Held>,
+    set: &ChildSet<S>,
 )
+    requires ended { set.now.rows.items ≡ [] }
     requires held { share.old.amount ≡ vec_len tickets }
     ensures none { share.new.amount ≡ 0 }
     ensures parts { share.new.parts ≡ share.old.parts }
 {
+    let _ = set;
     let mut tickets = tickets;
     while let Some(held) = tickets.pop() {
         let Held { k: _, ticket } = held;

@@ -2,10 +2,17 @@
 //! what a socket carries.
 #![tactic(auto)]
 
+mod alarm;
 mod listener;
+mod network;
+mod poll;
 mod ports;
 mod socket;
+#[cfg(test)]
+mod tests;
 
-pub use listener::{ListenFault, Listener};
-pub use ports::{Alarm, NetPorts};
+pub use alarm::Alarm;
+pub use listener::Listener;
+pub use network::{NetFault, Network};
+pub use ports::NetPorts;
 pub use socket::TcpSocket;

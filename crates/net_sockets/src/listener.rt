@@ -1,56 +1,67 @@
 // The address that is listened at.
+ghost use Rattle.std.specs.Prelude.{◌≡◌, ◌<◌, IfOk};
+
 use host_base::NoMemory;
 use mio::net::{TcpListener, TcpStream};
 use std::alloc::Global;
 use std::io;
+use std::marker::Model;
 use std::net::{IpAddr, Net, SocketAddr};
 use std::os::fd::{AsRawFd, RawFd};
 use std::sync::Arc;
 
-/// Why an address can't be listened at.
-#[derive(Clone, Copy, Debug, PartialEq, Eq)]
-pub enum ListenFault {
-    Failed,
-    NoMemory,
-}
-
-/// A listening socket. Each client that connects is taken by one of those who share it.
+/// A listening socket. Each client that connects is taken by one of those who share it. Contracts see its port.
 #[derive(Drop)]
 pub struct Listener {
     socket: Arc<TcpListener>,
+    port: u16,
+}
+
+impl Model for Listener {
+    ghost use Rattle.std.specs.Prelude.{ℕ};
+
+    ghost Value = { ℕ };
+
+    ghost view = { λ listener. listener.port };
 }
 
 impl Listener {
-    /// Listens at an address, also where connections of an earlier server are still closing there (SO_REUSEADDR).
-    /// Port 0 is any free one.
-    pub fn bind<N: Net>(
+    // Listens at an address, also where connections of an earlier server are still closing there (SO_REUSEADDR).
+    pub(crate) fn bind<N: Net>(
         net: &N,
         alloc: Global,
-        address: &str,
+        address: IpAddr,
         port: u16,
-    ) -> Result<Self, ListenFault> {
-        let Ok(ip) = address.parse::<IpAddr>() else {
-            return Err(ListenFault::Failed);
+    ) -> io::Result<Self>
+        ensures { IfOk result (λ listener. 0 < port → listener ≡ port) }
+    {
+        let socket = TcpListener::bind(net, SocketAddr::new(address, port))?;
+        let port = if port == 0 {
+            socket.local_addr()?.port()
+        } else {
+            port
         };
-        let Ok(socket) = TcpListener::bind(net, SocketAddr::new(ip, port)) else {
-            return Err(ListenFault::Failed);
-        };
-        match Arc::new(alloc, socket) {
-            Ok(socket) => Ok(Listener { socket }),
-            Err(_) => Err(ListenFault::NoMemory),
-        }
+        Ok(Listener {
+            socket: Arc::new(alloc, socket)?,
+            port,
+        })
     }
 
     /// The same, to be shared with another loop.
-    pub fn another(&self) -> Result<Self, NoMemory> {
+    pub fn another(&self) -> Result<Self, NoMemory>
+        ensures { IfOk result (λ other. other ≡ self.now) }
+    {
         Ok(Listener {
             socket: Arc::try_clone(&self.socket)?,
+            port: self.port,
         })
     }
 
     /// The port that is listened at.
-    pub fn port(&self) -> io::Result<u16> {
-        Ok(self.socket.local_addr()?.port())
+    pub fn port(&self) -> u16
+        ensures { result ≡ self.now }
+    {
+        self.port
     }
 
     pub(crate) fn accept(&self) -> io::Result<(TcpStream, SocketAddr)> {

@@ -1,6 +1,10 @@
 // A client's connection.
-ghost use Rattle.std.specs.Prelude.{◌≡◌};
+ghost use Rattle.std.specs.Prelude.{◌≡◌, ◌≤◌, ◌<◌, ℕ, length};
 ghost use Rattle.host_base.specs.Outsides.{Rose};
+ghost use Rattle.socket_set.specs.Sockets.{ReceiveCause, SendCause};
+ghost use Rattle.socket_set.specs.declared.socket.Received.TheVariants.{Bytes};
+ghost use Rattle.socket_set.specs.declared.socket.Sent.TheVariants.{Took};
+ghost use Rattle.net_sockets.specs.Nets.{IsSameSocket};
 
 use mio::net::TcpStream;
 use mio::{Interest, Registry, Token};
@@ -14,6 +18,9 @@ use std::net::Shutdown;
 pub struct TcpSocket {
     stream: TcpStream,
     watched: bool,
+    // The last read found that nothing has come, and the last write took nothing.
+    dry: bool,
+    full: bool,
     faults: u64,
 }
 
@@ -24,6 +31,8 @@ impl TcpSocket {
         TcpSocket {
             stream,
             watched: false,
+            dry: false,
+            full: false,
             faults: 0,
         }
     }
@@ -35,7 +44,7 @@ impl TcpSocket {
         token: Token,
         interest: Interest,
     ) -> io::Result<()>
-        ensures { self.new.faults ≡ self.old.faults }
+        ensures { IsSameSocket self.old self.new }
     {
         if self.watched {
             return registry.reregister(&mut self.stream, token, interest);
@@ -46,25 +55,25 @@ impl TcpSocket {
     }
 
     pub(crate) fn forget(&mut self, registry: &Registry)
-        ensures { self.new.faults ≡ self.old.faults }
+        ensures { IsSameSocket self.old self.new }
     {
         let _ = registry.deregister(&mut self.stream);
         let _ = self.stream.shutdown(Shutdown::Write);
     }
 
     fn count(&mut self)
-        ensures { Rose self.old.faults self.new.faults }
+        ensures rose { Rose self.old.faults self.new.faults }
+        ensures rest { self.new ≡ record self.old { faults = self.new.faults } }
     {
         self.faults = self.faults.saturating_add(1);
     }
-}
 
-impl Socket for TcpSocket {
-    ghost use Rattle.std.specs.Prelude.{None};
-
-    ghost tells = { λ s. record { left = None; taken = None; faults = s.faults } };
-
-    fn receive(&mut self, into: &mut [u8]) -> Received {
+    fn read(&mut self, into: &mut [u8]) -> Received
+        ensures within { (n : ℕ) → result ≡ Bytes n → n ≤ length into.old }
+        ensures some { (n : ℕ) → result ≡ Bytes n → 0 < n }
+        ensures cause { ReceiveCause self.old.faults self.new.faults result }
+        ensures rest { self.new.full ≡ self.old.full }
+    {
         match self.stream.read(into) {
             Ok(0) => Received::End,
             Ok(count) => Received::Bytes(count),
@@ -76,7 +85,12 @@ impl Socket for TcpSocket {
         }
     }
 
-    fn send(&mut self, from: &[u8]) -> Sent {
+    fn write(&mut self, from: &[u8]) -> Sent
+        ensures within { (n : ℕ) → result ≡ Took n → n ≤ length from.now }
+        ensures some { (n : ℕ) → result ≡ Took n → 0 < n }
+        ensures cause { SendCause self.old.faults self.new.faults result }
+        ensures rest { self.new.dry ≡ self.old.dry }
+    {
         match self.stream.write(from) {
             Ok(count) if count > 0 => Sent::Took(count),
             Ok(_) => Sent::Full,
@@ -86,6 +100,27 @@ impl Socket for TcpSocket {
                 Sent::Failed
             }
         }
+    }
+}
+
+impl Socket for TcpSocket {
+    ghost use Rattle.std.specs.Prelude.{None};
+
+    ghost tells = { λ s. record { left = None; taken = None; dry = s.dry; full = s.full; faults = s.faults } };
+
+    fn receive(&mut self, into: &mut [u8]) -> Received {
+        let received = self.read(into);
+        self.dry = received == Received::Nothing;
+        received
+    }
+
+    fn send(&mut self, from: &[u8]) -> Sent {
+        let sent = self.write(from);
+        self.full = match sent {
+            Sent::Took(_) => false,
+            Sent::Full | Sent::Failed => true,
+        };
+        sent
     }
 
     fn end_sending(&mut self) {

@@ -10,7 +10,8 @@ use Rattle.socket_set.specs.Clients.{ClientState, Moved, Rests, Says, Keeps, IsN
 use Rattle.socket_set.specs.Sockets.{SocketTells}
 use Rattle.std.proofs.lemmas.Bool.{cases_eq}
 use Rattle.std.specs.Option.{IsSome, IfSome}
-use Rattle.socket_set.specs.Sets.{SetState, clients, is_shut_at, OnClient, OnOne, On, Inserts, Leaves, SameDevices, SameClients, client_of, Goes, AllRest, OthersRest, OneSays, Arrives, SameCounts, Tells, IsQuiet, Counted}
+use Rattle.socket_set.specs.Sets.{SetState, clients, is_shut_at, OnClient, OnOne, On, Inserts, Leaves, SameDevices, SameClients, client_of, Goes, AllRest, OthersRest, OneSays, Arrives, SameCounts, Tells, IsQuiet, IsIdle, Counted}
+use Rattle.socket_set.specs.Devices.{Waits, AsksClock}
 use Rattle.socket_set.proofs.Steps.{moves_self}
 
 pub moved_self : (r : ClientState) → Moved [] r r
@@ -121,18 +122,21 @@ arrives_two : (c b : ℕ) (f g h : ℕ → Option ClientState) → AllRest f g �
 arrives_two c b f g h p e q =
     rw e record { s = q.s; is_now = q.is_now; fresh = q.fresh; others = λ d apart. goes_two (f d) (g d) (h d) (p d) (q.others d apart) }
 
+counts_self : (a : SetState) → SameCounts a a
+counts_self a = record { accepted = refl; ticked = refl; listening = refl }
+
 pub quiet_self : (a : SetState) → IsQuiet a a
-quiet_self a = record { counts = record { accepted = refl; ticked = refl }; rest = all_self (clients a) }
+quiet_self a = record { counts = counts_self a; rest = all_self (clients a) }
 
 counts_two : (a b d : SetState) → SameCounts a b → SameCounts b d → SameCounts a d
-counts_two a b d p q = record { accepted = q.accepted ∙ p.accepted; ticked = q.ticked ∙ p.ticked }
+counts_two a b d p q = record { accepted = q.accepted ∙ p.accepted; ticked = q.ticked ∙ p.ticked; listening = q.listening ∙ p.listening }
 
 pub quiet_two : (a b d : SetState) → IsQuiet a b → IsQuiet b d → IsQuiet a d
 quiet_two a b d p q =
     record { counts = counts_two a b d p.counts q.counts; rest = all_two (clients a) (clients b) (clients d) p.rest q.rest }
 
 pub counted_self : (a : SetState) → Counted a a
-counted_self a = record { grown = omega arith; ports = inl refl }
+counted_self a = record { grown = omega arith; looks = omega arith; waits = omega arith; ports = inl refl }
 
 rose_more : (a b d : ℕ) → a ≤ b → Rose b d → Rose a d
 rose_more a b d p q = omega (arith, p, q)
@@ -144,6 +148,8 @@ pub counted_two : (a b d : SetState) → Counted a b → Counted b d → Counted
 counted_two a b d p q =
     record {
       grown = omega (arith, p.grown, q.grown);
+      looks = omega (arith, p.looks, q.looks);
+      waits = omega (arith, p.waits, q.waits);
       ports = elim p.ports [
         | inl same ↦ elim q.ports [
           | inl still ↦ inl (still ∙ same)
@@ -163,10 +169,12 @@ pub tells_two : (e : Event) (a b d : SetState) → IsQuiet a b → Tells e b d �
 tells_two (Accepted peer) a b d p q = (
   q.0 ∙ ap (λ n. n + 1) p.counts.accepted,
   q.1 ∙ p.counts.ticked,
-  arrives_two b.accepted a.accepted (clients a) (clients b) (clients d) p.rest (sym p.counts.accepted) q.2,
+  sym p.counts.listening ∙ q.2,
+  q.3,
+  arrives_two b.accepted a.accepted (clients a) (clients b) (clients d) p.rest (sym p.counts.accepted) q.4,
 )
 tells_two (Tick secs) a b d p q =
-    (q.0 ∙ p.counts.accepted, q.1 ∙ ap (λ n. n + 1) p.counts.ticked, q.2, q.3, all_two (clients a) (clients b) (clients d) p.rest q.4)
+    (q.0 ∙ p.counts.accepted, q.1 ∙ ap (λ n. n + 1) p.counts.ticked, q.2 ∙ p.counts.listening, q.3, q.4, all_two (clients a) (clients b) (clients d) p.rest q.5)
 tells_two (ClientBytes c x) a b d p q = others_two (ClientBytes c x) a b d p q
 tells_two (ClientEof c) a b d p q = others_two (ClientEof c) a b d p q
 tells_two (ClientGone c) a b d p q = others_two (ClientGone c) a b d p q
@@ -215,14 +223,14 @@ goes_kept (Some r) (Some s) h = rw h (rests_self r)
 pub quiet_on : (c : ℕ) (a b : SetState) → OnOne c Rests a b → IsQuiet a b
 quiet_on c a b h =
     record {
-      counts = record { accepted = h.accepted; ticked = h.ticked };
+      counts = h.counts;
       rest = all_rest c (clients a) (clients b) (goes_on (clients a c) (clients b c) h.client) h.others;
     }
 
 pub quiet_kept : (c : ℕ) (a b : SetState) → On c Keeps a b → IsQuiet a b
 quiet_kept c a b h =
     record {
-      counts = record { accepted = h.one.accepted; ticked = h.one.ticked };
+      counts = h.one.counts;
       rest = all_rest c (clients a) (clients b) (goes_kept (clients a c) (clients b c) h.one.client) h.one.others;
     }
 
@@ -233,20 +241,22 @@ goes_gone (Some r) b h e = rw e h
 pub quiet_left : (c : ℕ) (a b : SetState) → is_shut_at (clients a c) ≡ true → Leaves c a b → IsQuiet a b
 quiet_left c a b shut h =
     record {
-      counts = record { accepted = h.accepted; ticked = h.ticked };
+      counts = h.counts;
       rest = all_rest c (clients a) (clients b) (goes_gone (clients a c) (clients b c) shut h.gone) h.others;
     }
 
 -- the client that was accepted
-pub accepted_told : (peer : Peer) (t : SocketTells) (n s : ClientState) (a b d : SetState) → SameClients a b → IsNewClient t n → s ≡ n
-    → Inserts s b d → Tells (Accepted peer) a d
-accepted_told peer t n s a b d same new e h =
+pub accepted_told : (peer : Peer) (t : SocketTells) (n s : ClientState) (a b d : SetState) → a.listening ≡ true → SameClients a b → IsNewClient t n
+    → s ≡ n → Inserts s b d → Tells (Accepted peer) a d
+accepted_told peer t n s a b d on same new e h =
     let clients_same : (c : ℕ) → clients b c ≡ clients a c = λ c. ap (λ rows. client_of rows c) same.rows in (
-      h.accepted ∙ ap (λ k. k + 1) same.accepted,
-      h.ticked ∙ same.ticked,
+      h.accepted ∙ ap (λ k. k + 1) same.counts.accepted,
+      h.ticked ∙ same.counts.ticked,
+      on,
+      h.listening ∙ (same.counts.listening ∙ on),
       record {
         s = s;
-        is_now = ap (λ k. clients d k) (sym same.accepted) ∙ h.is_now;
+        is_now = ap (λ k. clients d k) (sym same.counts.accepted) ∙ h.is_now;
         fresh = rw e record {
           nothing_waits = new.nothing_waits;
           nothing_untold = new.nothing_untold;
@@ -254,14 +264,14 @@ accepted_told peer t n s a b d same new e h =
           plain = new.plain;
           not_shut = new.not_shut;
         };
-        others = λ c apart. subst (λ x. Goes (clients a c) x) (sym (h.others c (λ z. apart (z ∙ same.accepted)) ∙ clients_same c)) (goes_self (clients a c));
+        others = λ c apart. subst (λ x. Goes (clients a c) x) (sym (h.others c (λ z. apart (z ∙ same.counts.accepted)) ∙ clients_same c)) (goes_self (clients a c));
       },
     )
 
 pub quiet_same : (a b : SetState) → SameClients a b → IsQuiet a b
 quiet_same a b h =
     record {
-      counts = record { accepted = h.accepted; ticked = h.ticked };
+      counts = h.counts;
       rest = λ c. subst (λ x. Goes (clients a c) x) (sym (ap (λ rows. client_of rows c) h.rows)) (goes_self (clients a c));
     }
 
@@ -276,7 +286,7 @@ said c e f g (Some r) (Some s) p q known h others =
 one_said : (c : ℕ) (e : Event) (a b : SetState) → IsSome (clients a c) → OnOne c (λ r s. Says c r s e) a b
     → SameCounts a b × OneSays e (clients a) (clients b)
 one_said c e a b known h =
-    (record { accepted = h.accepted; ticked = h.ticked }, said c e (clients a) (clients b) (clients a c) (clients b c) refl refl known h.client h.others)
+    (h.counts, said c e (clients a) (clients b) (clients a c) (clients b c) refl refl known h.client h.others)
 
 none_said : (R : ClientState → ClientState → Type 0) (a b : Option ClientState) → IsSome a → ((r s : ClientState) → R r s → ⊥)
     → OnClient R a b → ⊥
@@ -308,7 +318,36 @@ tells_said c (NoRoom d) a b known h = one_said c (NoRoom d) a b known h
 tells_said c Stop a b known h = one_said c Stop a b known h
 
 pub counted_same : (a b : SetState) → SameDevices a b → Counted a b
-counted_same a b h = record { grown = rw h.faults (omega arith); ports = inl (ap (λ p. p.failed) h.ports) }
+counted_same a b h = record { grown = rw h.faults (omega arith); looks = rw h.ports (omega arith); waits = rw h.ports (omega arith); ports = inl (ap (λ p. p.failed) h.ports) }
+
+-- the clock was asked
+pub asked_counted : (a b : SetState) → b.faults ≡ a.faults → AsksClock a.ports b.ports → Counted a b
+asked_counted a b f h =
+    let waits : b.ports.waits ≡ a.ports.waits = ap (λ p. p.waits) h.rest in
+    record { grown = omega (arith, f); looks = h.grown; waits = omega (arith, waits); ports = inl (ap (λ p. p.failed) h.rest) }
+
+-- a wait was made
+pub waited_counted : (a b : SetState) → b.faults ≡ a.faults → Waits true a.ports b.ports → Counted a b
+waited_counted a b f h =
+    let looks : b.ports.looks ≡ a.ports.looks = ap (λ p. p.looks) h.fails in
+    record { grown = omega (arith, f); looks = omega (arith, looks); waits = h.grown; ports = inl (ap (λ p. p.failed) h.fails) }
+
+pub failed_counted : (a b : SetState) → a.faults ≤ b.faults → Rose a.faults b.faults → Waits false a.ports b.ports → Counted a b
+failed_counted a b g f h =
+    let looks : b.ports.looks ≡ a.ports.looks = ap (λ p. p.looks) h.fails.0 in
+    record { grown = g; looks = omega (arith, looks); waits = h.grown; ports = inr f }
+
+pub rose_kept : (a b : SetState) (x : ℕ) → SameDevices a b → Rose x a.ports.waits → Rose x b.ports.waits
+rose_kept a b x h r = subst (λ p. Rose x p.waits) (sym h.ports) r
+
+-- what was idle later
+pub idle_later : (a b d : SetState) → Counted a b → IsIdle b d → IsIdle a d
+idle_later a b d c h =
+    record {
+      tick = record { asked = rose_more a.ports.looks b.ports.looks d.ports.looks c.looks h.tick.asked; none_owed = h.tick.none_owed };
+      ready = rose_more a.ports.waits b.ports.waits d.ports.waits c.waits h.ready;
+      still = h.still;
+    }
 
 pub devices_self : (a : SetState) → SameDevices a a
 devices_self a = record { faults = refl; ports = refl }

@@ -68,6 +68,20 @@ pub record Says (c : ℕ) (r s : ClientState) (event : Event) : Type 0 where
   pub not_shut : r.shut ≡ false
   pub wanted : s.wanted ≡ wanted_after event r.wanted
 
+-- so much waits that no more is read of a WebSocket
+pub record HasMuch (s : ClientState) : Type 0 where
+  pub upgraded : s.upgraded ≡ true
+  pub much : 524288 < length s.outgoing
+
+-- Nothing is to be told of it: where bytes wait its socket took none of them, and where an event is asked for its
+-- socket found that nothing has come.
+pub record IsStill (s : ClientState) : Type 0 where
+  pub room : 0 < length s.outgoing → s.socket.full ≡ true
+  pub bytes : s.wanted ≡ true → (s.socket.dry ≡ true) ⊎ HasMuch s
+
+abbrev pub IsStillOrShut : ClientState → Type 0
+IsStillOrShut s = s.shut ≡ false → IsStill s
+
 -- nothing was heard of it, and nothing waits
 pub record IsNewClient (socket : SocketTells) (s : ClientState) : Type 0 where
   pub is_of : s.socket ≡ socket
@@ -134,5 +148,5 @@ SaysMessage c _ = ⊥
 pub record CountsFaults (event : Option Event) (ports_old ports_new : PortsTell) (old new : ℕ) : Type 0 where
   pub grown : old ≤ new
   pub ports : (ports_new.failed ≡ ports_old.failed) ⊎ Rose old new
-  pub shown : ports_new.shown ≡ ports_old.shown
+  pub rest : ports_new ≡ record ports_old { failed = ports_new.failed }
   pub event_counts : has_failed event ≡ true → Rose old new

@@ -1,5 +1,5 @@
 -- What a call of a socket does to the bytes of its client, where it tells them.
-use Rattle.std.specs.Prelude.{ℕ, ◌≤◌, ◌≡◌, List, [], take, drop, Option}
+use Rattle.std.specs.Prelude.{ℕ, ◌≤◌, ◌≡◌, Bool, true, false, List, [], take, drop, Option}
 use Rattle.std.specs.Io.KnownBytes.{Appends, Consumes, IsAtEnd, append_known}
 use Rattle.host_base.specs.Outsides.{Rose}
 use Rattle.socket_set.specs.declared.socket.Received.{Received}
@@ -11,8 +11,19 @@ pub record SocketTells : Type 0 where
   -- the bytes that its client has still to give, and those that it took for it, where they are told
   pub left : Option (List ℕ)
   pub taken : Option (List ℕ)
+  -- the last read found that nothing has come, and the last write took nothing
+  pub dry : Bool
+  pub full : Bool
   -- how often a read or a write failed
   pub faults : ℕ
+
+abbrev pub has_nothing : Received → Bool
+has_nothing Got.Nothing = true
+has_nothing _ = false
+
+abbrev pub took_nothing : Sent → Bool
+took_nothing (Put.Took n) = false
+took_nothing _ = true
 
 -- a read takes bytes from those that are left, and the end comes only where none are
 abbrev pub Gives : Option (List ℕ) → Option (List ℕ) → List ℕ → Received → Type 0
@@ -39,11 +50,15 @@ SendCause before after _ = before ≤ after
 pub record Receives (old new : SocketTells) (into : List ℕ) (received : Received) : Type 0 where
   pub bytes : Gives old.left new.left into received
   pub taken : new.taken ≡ old.taken
+  pub dry : new.dry ≡ has_nothing received
+  pub full : new.full ≡ old.full
   pub cause : ReceiveCause old.faults new.faults received
 
 pub record Sends (old new : SocketTells) (from : List ℕ) (sent : Sent) : Type 0 where
   pub bytes : Takes old.taken new.taken from sent
   pub left : new.left ≡ old.left
+  pub dry : new.dry ≡ old.dry
+  pub full : new.full ≡ took_nothing sent
   pub cause : SendCause old.faults new.faults sent
 
 -- What was taken and what waits are, in this order, what was taken and what waited before, and then `more`: nothing

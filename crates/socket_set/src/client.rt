@@ -60,20 +60,23 @@ pub(crate) enum Due {
 }
 
 impl<S: Socket> Model for Client<S> {
-    ghost use Rattle.std.specs.Prelude.{◌≡◌, IsSome, true};
+    ghost use Rattle.std.specs.Prelude.{◌≡◌, IsSome, true, false};
     ghost use Rattle.socket_set.specs.Clients.{ClientState, state_of};
 
     ghost Value = { ClientState };
 
     ghost view = { λ r. state_of (S.tells r.socket) r.outgoing r.untold r.wanted r.upgraded r.shut };
 
-    ghost invariant = { λ r. IsSome r.link → r.upgraded ≡ true };
+    ghost invariant = { λ r.
+        (IsSome r.link → r.upgraded ≡ true)
+        × (r.may_receive ≡ false → (S.tells r.socket).dry ≡ true)
+        × (r.may_send ≡ false → (S.tells r.socket).full ≡ true) };
 }
 
 impl<S: Socket> Client<S> {
     ghost use Rattle.std.specs.Prelude.{◌≡◌, ◌++◌, ◌+◌, ◌-◌, ◌^◌, ◌≤◌, ◌<◌, ◌==◌, [], true, false, None, min, length, sum_by, IfSome, IsNone, OnOk, OnErr};
     ghost use Rattle.socket_set.specs.Devices.{FailsUnless};
-    ghost use Rattle.socket_set.specs.Clients.{Rests, Says, CountsFaults, UnlessShut, IsNewClient, Writes, Upgrades, Frames, Shuts, WantsMore, SameButUntold, IsUnwanted, SaysMessage};
+    ghost use Rattle.socket_set.specs.Clients.{Rests, Says, CountsFaults, UnlessShut, IsNewClient, Writes, Upgrades, Frames, Shuts, WantsMore, SameButUntold, IsUnwanted, SaysMessage, IsStill, IsStillOrShut, HasMuch};
 
     /// A client of which nothing was heard.
     pub fn new(alloc: Global, socket: S) -> Self
@@ -286,7 +289,9 @@ impl<S: Socket> Client<S> {
     }
 
     // Whether it is to be asked once more.
-    fn is_due(&self) -> bool {
+    fn is_due(&self) -> bool
+        ensures { result ≡ false → IsStillOrShut self.now }
+    {
         if self.may_send && !self.outgoing.is_empty() {
             return true;
         }
@@ -296,8 +301,17 @@ impl<S: Socket> Client<S> {
         self.trouble.is_some() || self.wanted && (self.may_receive && self.is_read() || self.unread)
     }
 
+    /// Whether something is to be told of it, as far as it was not asked.
+    pub(crate) fn is_busy(&self) -> bool
+        ensures { result ≡ false → IsStillOrShut self.now }
+    {
+        !self.shut && self.is_due()
+    }
+
     // Its socket is read, if that is asked for.
-    fn is_read(&self) -> bool {
+    fn is_read(&self) -> bool
+        ensures { result ≡ false → HasMuch self.now }
+    {
         !self.upgraded || self.outgoing.len() <= HIGH
     }
 
@@ -322,6 +336,9 @@ impl<S: Socket> Client<S> {
             self.still = 0;
             return false;
         }
+        if !self.may_receive {
+            return false;
+        }
         match self.socket.receive(buffer) {
             Received::Bytes(_) => false,
             Received::Nothing => {
@@ -340,6 +357,7 @@ impl<S: Socket> Client<S> {
     {
         match self.outgoing.send_to(&mut self.socket) {
             Sent::Took(_) => {
+                self.may_send = true;
                 self.still = 0;
                 false
             }
@@ -349,6 +367,13 @@ impl<S: Socket> Client<S> {
             }
             Sent::Failed => true,
         }
+    }
+
+    /// Something waits to be sent.
+    pub(crate) fn has_unsent(&self) -> bool
+        ensures { result ≡ false → self.now.outgoing ≡ [] }
+    {
+        !self.outgoing.is_empty()
     }
 
     /// Nothing waits to be sent.
@@ -437,6 +462,7 @@ impl<S: Socket> Client<S> {
     {
         match self.outgoing.send_to(&mut self.socket) {
             Sent::Took(_) => {
+                self.may_send = true;
                 self.still = 0;
                 match self.take_untold() {
                     0 => None,

@@ -11,5 +11,8 @@ mod socket;
 pub use client::{Client, Trouble};
 pub use outgoing::Outgoing;
 pub use ports::{Arrival, Ports, Ready};
-pub use set::SocketSet;
+pub use set::{Polled, SocketSet};
 pub use socket::{Received, Sent, Socket};
+
+#[cfg(test)]
+mod tests;

@@ -1,6 +1,6 @@
 // Where clients come from, what tells that a socket is ready, and the clock.
 ghost use Rattle.std.specs.Prelude.{◌≡◌, ◌<◌};
-ghost use Rattle.socket_set.specs.Devices.{PortsTell, FailsUnless, is_answered};
+ghost use Rattle.socket_set.specs.Devices.{PortsTell, FailsUnless, Waits, AsksClock, is_answered};
 
 use super::Socket;
 use host_base::Peer;
@@ -51,7 +51,7 @@ pub trait Ports {
     /// Waits until a socket is ready, the loop is woken, or so many milliseconds went by. It answers whether it
     /// could wait.
     fn wait(&mut self, millis: u64) -> bool
-        ensures { FailsUnless result (tells self.old) (tells self.new) };
+        ensures { Waits result (tells self.old) (tells self.new) };
 
     /// One report of the last wait, and only once.
     fn ready(&mut self) -> Option<Ready>
@@ -60,7 +60,7 @@ pub trait Ports {
     /// How often the clock has shown 100 ms more, since the ports were made.
     fn ticks(&mut self) -> u64
         ensures shown { result ≡ (tells self.new).shown }
-        ensures failed { (tells self.new).failed ≡ (tells self.old).failed };
+        ensures asked { AsksClock (tells self.old) (tells self.new) };
 
     /// How many milliseconds are left until it shows 100 ms more: 1 to 100.
     fn millis_to_tick(&mut self) -> u64

@@ -1,5 +1,5 @@
 // The clients of a loop.
-ghost use Rattle.std.specs.Prelude.{◌≡◌, is_ok, if◌then◌else◌};
+ghost use Rattle.std.specs.Prelude.{◌≡◌, is_ok, not, if◌then◌else◌};
 
 use super::client::Due;
 use super::{Arrival, Client, Ports, Ready};
@@ -12,13 +12,14 @@ use std::marker::Model;
 // How many bytes one read takes at most.
 const PIECE: usize = 65_536;
 
-// Whether clients are accepted.
-#[derive(Clone, Copy, Debug, PartialEq, Eq)]
-enum Listening {
-    On,
-    /// Until the next tick.
-    Paused,
-    Ended,
+/// What asking all brought.
+#[derive(Drop)]
+pub enum Polled {
+    Told(Event),
+    /// Nothing is there to be told.
+    Nothing,
+    /// Some have to be asked once more.
+    Again,
 }
 
 /// The clients of a loop, by their numbers, each until it was shut and what waited for it was sent or given up.
@@ -31,7 +32,10 @@ pub struct SocketSet<P: Ports> {
     leaving: VecDeque<u64>,
     // Who is asked next. Each stands there once.
     due: VecDeque<Due>,
-    listening: Listening,
+    // No further client is accepted.
+    ended: bool,
+    // .. until the next tick.
+    paused: bool,
     listener_queued: bool,
     // So many may be told before the ports are asked again what is ready.
     round: usize,
@@ -43,27 +47,28 @@ pub struct SocketSet<P: Ports> {
 }
 
 impl<P: Ports> Model for SocketSet<P> {
-    ghost use Rattle.std.specs.Prelude.{◌<◌, ◌≤◌, vec_len};
+    ghost use Rattle.std.specs.Prelude.{◌<◌, ◌≤◌, not, vec_len};
     ghost use Rattle.socket_set.specs.Sets.{SetState, set_of};
 
     ghost Value = { SetState };
 
-    ghost view = { λ m. set_of m.clients.entries m.accepted m.ticked m.faults (P.tells m.ports) };
+    ghost view = { λ m. set_of m.clients.entries m.accepted m.ticked (not m.ended) m.faults (P.tells m.ports) };
 
     ghost invariant = { λ m. (0 < vec_len m.buffer) × (vec_len m.buffer ≤ 65536) };
 }
 
 impl<P: Ports + Drop> SocketSet<P> {
-    ghost use Rattle.std.specs.Prelude.{◌≡◌, ◌+◌, ◌-◌, ◌^◌, ◌<◌, true, false, [], IfOk, IfSome, IsSome, IsNone, OnOk, OnErr, length, sum_by};
+    ghost use Rattle.std.specs.Prelude.{◌≡◌, ◌+◌, ◌-◌, ◌^◌, ◌<◌, true, false, [], None, All, IfOk, IfSome, IsSome, IsNone, OnOk, OnErr, length, sum_by};
     ghost use Rattle.host_base.specs.Outsides.{Rose};
     ghost use Rattle.host_trace.specs.Told.{is_failure};
-    ghost use Rattle.socket_set.specs.Clients.{Says, Rests, UnlessShut, Keeps, WantsMore, Writes, Upgrades, Frames, Shuts, has_failed};
-    ghost use Rattle.socket_set.specs.Sets.{SetState, Tells, IsQuiet, Counted, OnOne, On, Inserts, Leaves, SameDevices, SameClients, Acts, is_shut_at, clients};
+    ghost use Rattle.socket_set.specs.Clients.{Says, Rests, UnlessShut, Keeps, WantsMore, Writes, Upgrades, Frames, Shuts, IsStillOrShut, has_failed};
+    ghost use Rattle.socket_set.specs.Sets.{SetState, Tells, IsQuiet, IsIdle, OwesNoTick, told_by, Counted, OnOne, On, Inserts, Leaves, SameDevices, SameClients, Acts, is_shut_at, is_open_at, clients};
 
     /// A set of no client yet, with room for `most`, those that were shut among them.
     pub fn new(alloc: Global, ports: P, most: u32) -> Result<SocketSet<P>, NoMemory>
         ensures none { IfOk result (λ set. set.rows ≡ []) }
         ensures counts { IfOk result (λ set. (set.accepted ≡ 0) × (set.ticked ≡ 0) × (set.faults ≡ 0)) }
+        ensures listening { IfOk result (λ set. set.listening ≡ true) }
         ensures ports { IfOk result (λ set. set.ports ≡ P.tells ports) }
     {
         let most = most as usize;
@@ -73,7 +78,8 @@ impl<P: Ports + Drop> SocketSet<P> {
             clients: BTreeMap::new(alloc),
             leaving: VecDeque::with_capacity(alloc, most)?,
             due: VecDeque::with_capacity(alloc, most.saturating_add(1))?,
-            listening: Listening::On,
+            ended: false,
+            paused: false,
             listener_queued: false,
             round: 0,
             most,
@@ -84,30 +90,75 @@ impl<P: Ports + Drop> SocketSet<P> {
         })
     }
 
-    /// One event of a client or of the clock, if there is any to tell.
+    /// One event of a client or of the clock. Nothing comes only where nothing is there: the clock was asked, and what
+    /// is ready, and no client has anything to tell.
     #[tactic(auto, using(crate::proofs::Sets::tells_two, crate::proofs::Sets::quiet_two, crate::proofs::Sets::counted_two, crate::proofs::Sets::rose_later))]
-    pub fn poll(&mut self) -> Option<Event>
-        ensures some { IfSome result (λ event. Tells event self.old self.new) }
-        ensures none { IsNone result → IsQuiet self.old self.new }
+    pub fn poll(&mut self) -> Polled
+        ensures some { IfSome (told_by result) (λ event. Tells event self.old self.new) }
+        ensures none { IsNone (told_by result) → IsQuiet self.old self.new }
+        ensures nothing { result ≡ Polled.Nothing → IsIdle self.old self.new }
         ensures counted { Counted self.old self.new }
-        ensures failure { has_failed result ≡ true → Rose self.old.faults self.new.faults }
+        ensures failure { has_failed (told_by result) ≡ true → Rose self.old.faults self.new.faults }
     {
         match self.tick() {
-            Some(event) => Some(event),
+            Some(event) => Polled::Told(event),
             None => self.ask_all(),
         }
     }
 
-    // Asks those that are due, each once, up to the first that has something to tell. Once in a round the ports
-    // are asked what is ready.
-    #[tactic(auto, using(crate::proofs::Sets::tells_two, crate::proofs::Sets::quiet_two, crate::proofs::Sets::quiet_self, crate::proofs::Sets::counted_two, crate::proofs::Sets::counted_self, crate::proofs::Sets::rose_later))]
-    fn ask_all(&mut self) -> Option<Event>
+    // Asks those that are due. Once in a round the ports are asked what is ready, and before nothing is told.
+    #[tactic(auto, using(crate::proofs::Sets::counted_two, crate::proofs::Sets::rose_later))]
+    fn ask_all(&mut self) -> Polled
+        ensures some { IfSome (told_by result) (λ event. Tells event self.old self.new) }
+        ensures none { IsNone (told_by result) → IsQuiet self.old self.new }
+        ensures nothing { result ≡ Polled.Nothing → IsIdle self.old self.new }
+        ensures counted { Counted self.old self.new }
+        ensures failure { has_failed (told_by result) ≡ true → Rose self.old.faults self.new.faults }
+    {
+        match self.ask_rest() {
+            Some(event) => Polled::Told(event),
+            None => self.look_and_ask(),
+        }
+    }
+
+    // Asks those that are due in this round, if it is not over.
+    #[tactic(auto, using(crate::proofs::Sets::quiet_self, crate::proofs::Sets::counted_self))]
+    fn ask_rest(&mut self) -> Option<Event>
         ensures some { IfSome result (λ event. Tells event self.old self.new) }
         ensures none { IsNone result → IsQuiet self.old self.new }
         ensures counted { Counted self.old self.new }
         ensures failure { has_failed result ≡ true → Rose self.old.faults self.new.faults }
     {
-        self.look_again();
+        if self.round == 0 {
+            return None;
+        }
+        self.round -= 1;
+        self.ask_round()
+    }
+
+    #[tactic(auto, using(crate::proofs::Sets::counted_two, crate::proofs::Sets::rose_later))]
+    fn look_and_ask(&mut self) -> Polled
+        ensures some { IfSome (told_by result) (λ event. Tells event self.old self.new) }
+        ensures none { IsNone (told_by result) → IsQuiet self.old self.new }
+        ensures nothing { result ≡ Polled.Nothing → IsIdle self.old self.new }
+        ensures counted { Counted self.old self.new }
+        ensures failure { has_failed (told_by result) ≡ true → Rose self.old.faults self.new.faults }
+    {
+        self.begin_round(0);
+        match self.ask_round() {
+            Some(event) => Polled::Told(event),
+            None => self.end_round(),
+        }
+    }
+
+    // Asks those that are due, each once, up to the first that has something to tell.
+    #[tactic(auto, using(crate::proofs::Sets::tells_two, crate::proofs::Sets::quiet_two, crate::proofs::Sets::quiet_self, crate::proofs::Sets::counted_two, crate::proofs::Sets::counted_self, crate::proofs::Sets::rose_later))]
+    fn ask_round(&mut self) -> Option<Event>
+        ensures some { IfSome result (λ event. Tells event self.old self.new) }
+        ensures none { IsNone result → IsQuiet self.old self.new }
+        ensures counted { Counted self.old self.new }
+        ensures failure { has_failed result ≡ true → Rose self.old.faults self.new.faults }
+    {
         for _ in 0..self.due.len() {
             match self.ask_next() {
                 Some(event) => return Some(event),
@@ -117,17 +168,43 @@ impl<P: Ports + Drop> SocketSet<P> {
         None
     }
 
-    #[tactic(auto, using(crate::proofs::Sets::quiet_self, crate::proofs::Sets::counted_self))]
-    fn look_again(&mut self)
+    // Whether nothing more is there after a round that brought nothing.
+    #[tactic(auto, using(crate::proofs::Sets::quiet_same, crate::proofs::Sets::quiet_self, crate::proofs::Sets::counted_self))]
+    fn end_round(&mut self) -> Polled
+        ensures told { told_by result ≡ None }
+        ensures tick { result ≡ Polled.Nothing → OwesNoTick self.old self.new }
+        ensures still { result ≡ Polled.Nothing → All (λ row. IsStillOrShut row.1) self.new.rows }
         ensures quiet { IsQuiet self.old self.new }
         ensures counted { Counted self.old self.new }
     {
-        if self.round == 0 {
-            self.look(0);
-            self.round = self.due.len();
+        if self.is_any_busy() || self.is_tick_owed() {
+            Polled::Again
         } else {
-            self.round -= 1;
+            Polled::Nothing
         }
+    }
+
+    fn is_any_busy(&self) -> bool
+        ensures { result ≡ false → All (λ row. IsStillOrShut row.1) self.now.rows }
+    {
+        for (_, client) in &self.clients {
+            if client.is_busy() {
+                return true;
+            }
+        }
+        false
+    }
+
+    // Whether the clock has shown more ticks than were told.
+    #[tactic(auto, using(crate::proofs::Sets::asked_counted))]
+    fn is_tick_owed(&mut self) -> bool
+        ensures owed { result ≡ true → self.new.ticked < self.new.ports.shown }
+        ensures room { result ≡ true → self.new.ticked < 2 ^ 64 - 1 }
+        ensures none { result ≡ false → OwesNoTick self.old self.new }
+        ensures rows { SameClients self.old self.new }
+        ensures counted { Counted self.old self.new }
+    {
+        self.ports.ticks() > self.ticked
     }
 
     #[tactic(auto, using(crate::proofs::Sets::quiet_self, crate::proofs::Sets::counted_self))]
@@ -269,11 +346,11 @@ impl<P: Ports + Drop> SocketSet<P> {
         ensures failure { has_failed result ≡ true → Rose self.old.faults self.new.faults }
     {
         self.listener_queued = false;
-        if self.listening != Listening::On {
+        if self.ended || self.paused {
             return None;
         }
         if self.clients.len() >= self.most || self.accepted == u64::MAX {
-            self.listening = Listening::Paused;
+            self.paused = true;
             return None;
         }
         match self.ports.accept() {
@@ -284,7 +361,7 @@ impl<P: Ports + Drop> SocketSet<P> {
             Arrival::Nothing => None,
             Arrival::Failed => {
                 self.faults = self.faults.saturating_add(1);
-                self.listening = Listening::Paused;
+                self.paused = true;
                 None
             }
         }
@@ -293,7 +370,8 @@ impl<P: Ports + Drop> SocketSet<P> {
     // Makes a client of a socket. One that can't be watched, or for which there is no memory, is let go.
     #[tactic(auto, using(crate::proofs::Sets::quiet_same, crate::proofs::Sets::quiet_two, crate::proofs::Sets::counted_two, crate::proofs::Sets::counted_same))]
     fn admit(&mut self, socket: P::Socket, peer: Peer) -> Option<Event>
-        requires { self.old.accepted < 2 ^ 64 - 1 }
+        requires room { self.old.accepted < 2 ^ 64 - 1 }
+        requires listening { self.old.listening ≡ true }
         ensures some { IfSome result (λ event. Tells event self.old self.new) }
         ensures none { IsNone result → IsQuiet self.old self.new }
         ensures counted { Counted self.old self.new }
@@ -340,21 +418,20 @@ impl<P: Ports + Drop> SocketSet<P> {
     }
 
     // A tick, where the clock has shown more than were told.
-    #[tactic(auto, using(crate::proofs::Sets::counted_same, crate::proofs::Sets::quiet_self))]
+    #[tactic(auto, using(crate::proofs::Sets::counted_same, crate::proofs::Sets::counted_two, crate::proofs::Sets::quiet_same, crate::proofs::Sets::quiet_self))]
     fn tick(&mut self) -> Option<Event>
         ensures some { IfSome result (λ event. Tells event self.old self.new) }
         ensures none { IsNone result → IsQuiet self.old self.new }
         ensures counted { Counted self.old self.new }
         ensures failure { has_failed result ≡ false }
     {
-        let shown = self.ports.ticks();
-        if shown <= self.ticked {
+        if !self.is_tick_owed() {
             return None;
         }
         self.ticked += 1;
         let secs = self.ports.seconds();
-        if self.listening == Listening::Paused {
-            self.listening = Listening::On;
+        if self.paused {
+            self.paused = false;
             self.enqueue_listener();
         }
         self.tick_leaving();
@@ -409,26 +486,46 @@ impl<P: Ports + Drop> SocketSet<P> {
     pub fn wait(&mut self, millis: u64)
         ensures quiet { IsQuiet self.old self.new }
         ensures counted { Counted self.old self.new }
+        ensures asked { Rose self.old.ports.waits self.new.ports.waits }
     {
         let millis = if self.due.is_empty() {
             self.ports.millis_to_tick().min(millis)
         } else {
             0
         };
+        self.begin_round(millis);
+    }
+
+    // Waits, and begins a round of those that are due then.
+    fn begin_round(&mut self, millis: u64)
+        ensures quiet { IsQuiet self.old self.new }
+        ensures counted { Counted self.old self.new }
+        ensures asked { Rose self.old.ports.waits self.new.ports.waits }
+    {
         self.look(millis);
         self.round = self.due.len();
     }
 
     // Waits, and has those that are ready asked. A wait that fails is passed over.
-    #[tactic(auto, using(crate::proofs::Sets::quiet_two, crate::proofs::Sets::counted_two, crate::proofs::Sets::counted_same, crate::proofs::Sets::quiet_self))]
+    #[tactic(auto, using(crate::proofs::Sets::quiet_two, crate::proofs::Sets::quiet_same, crate::proofs::Sets::counted_two, crate::proofs::Sets::counted_same, crate::proofs::Sets::rose_kept))]
     fn look(&mut self, millis: u64)
         ensures quiet { IsQuiet self.old self.new }
         ensures counted { Counted self.old self.new }
+        ensures asked { Rose self.old.ports.waits self.new.ports.waits }
+    {
+        self.wait_for_ports(millis);
+        self.note_all();
+    }
+
+    #[tactic(auto, using(crate::proofs::Sets::waited_counted, crate::proofs::Sets::failed_counted))]
+    fn wait_for_ports(&mut self, millis: u64)
+        ensures rows { SameClients self.old self.new }
+        ensures counted { Counted self.old self.new }
+        ensures asked { Rose self.old.ports.waits self.new.ports.waits }
     {
         if !self.ports.wait(millis) {
             self.faults = self.faults.saturating_add(1);
         }
-        self.note_all();
     }
 
     #[tactic(auto, using(crate::proofs::Sets::quiet_self, crate::proofs::Sets::quiet_two, crate::proofs::Sets::devices_self, crate::proofs::Sets::devices_two))]
@@ -550,9 +647,31 @@ impl<P: Ports + Drop> SocketSet<P> {
 
     /// No further client is accepted.
     pub fn end_listening(&mut self)
-        ensures { self.new ≡ self.old }
+        ensures { self.new ≡ record self.old { listening = false } }
     {
-        self.listening = Listening::Ended;
+        self.ended = true;
+    }
+
+    /// Client c was accepted and not shut.
+    pub fn is_open(&self, c: u64) -> bool
+        ensures { result ≡ is_open_at (clients self.now c) }
+    {
+        match self.clients.get(&c) {
+            Some(client) => !client.is_shut(),
+            None => false,
+        }
+    }
+
+    /// Nothing waits to be sent to any client.
+    pub fn is_all_sent(&self) -> bool
+        ensures { result ≡ true → All (λ row. row.1.outgoing ≡ []) self.now.rows }
+    {
+        for (_, client) in &self.clients {
+            if client.has_unsent() {
+                return false;
+            }
+        }
+        true
     }
 
     /// How many clients were accepted. The next has this number.

@@ -1,9 +1,14 @@
 use Rattle.std.proofs.Common.{refl}
-use Rattle.socket_set.proofs.Sets.{quiet_two, counted_two}
+use Rattle.socket_set.specs.Sets.{told_by}
+use Rattle.socket_set.proofs.Sets.{quiet_two, tells_later, idle_later}
 use Rattle.socket_set.proofs.set.SocketSet.ask_all.Goals as goal
 
-pub loop-preserved : goal.loop-preserved
-loop-preserved g c = (
-  quiet_two _ _ _ c.loop.invariant.0 (c.ask_next.ensures.none (rw c.in-None.is refl)),
-  counted_two _ _ _ c.loop.invariant.1 c.ask_next.ensures.counted,
-)
+pub returns-in-None-clause-some : goal.returns-in-None-clause-some
+returns-in-None-clause-some g c =
+    tells_later (told_by c.look_and_ask.result) _ _ _ (c.ask_rest.ensures.none (rw c.in-None.is refl)) c.look_and_ask.ensures.some
+
+pub returns-in-None-clause-none : goal.returns-in-None-clause-none
+returns-in-None-clause-none g c = λ n. quiet_two _ _ _ (c.ask_rest.ensures.none (rw c.in-None.is refl)) (c.look_and_ask.ensures.none n)
+
+pub returns-in-None-clause-nothing : goal.returns-in-None-clause-nothing
+returns-in-None-clause-nothing g c = λ n. idle_later _ _ _ c.ask_rest.ensures.counted (c.look_and_ask.ensures.nothing n)

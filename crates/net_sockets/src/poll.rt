@@ -1,0 +1,99 @@
+// A wait for many sockets.
+ghost use Rattle.std.specs.Prelude.{◌≡◌};
+ghost use Rattle.net_sockets.specs.Nets.{RisesUnless};
+
+use mio::event::Event;
+use mio::unix::SourceFd;
+use mio::{Events, Interest, Poll, Registry, Token, Waker};
+use socket_set::Ready;
+use std::alloc::Global;
+use std::collections::VecDeque;
+use std::io;
+use std::net::Net;
+use std::os::fd::RawFd;
+use std::time::Duration;
+
+// How many reports one wait gives at most. The others come with the next.
+const REPORTS: usize = 256;
+
+const LISTENER: Token = Token(usize::MAX);
+
+const WAKER: Token = Token(usize::MAX - 1);
+
+/// A wait for many sockets, which passes over a wait that fails, and counts it.
+#[derive(Drop)]
+pub(crate) struct CountedPoll {
+    poll: Poll,
+    events: Events,
+    reports: VecDeque<Ready>,
+}
+
+impl CountedPoll {
+    pub fn new<N: Net>(net: &N, alloc: Global) -> io::Result<Self> {
+        Ok(CountedPoll {
+            poll: Poll::new(net)?,
+            events: Events::with_capacity(alloc, REPORTS)?,
+            reports: VecDeque::with_capacity(alloc, REPORTS)?,
+        })
+    }
+
+    pub fn registry(&self) -> &Registry {
+        self.poll.registry()
+    }
+
+    /// Has the listening socket reported.
+    pub fn listen(&self, descriptor: RawFd) -> io::Result<()> {
+        self.registry()
+            .register(&mut SourceFd(&descriptor), LISTENER, Interest::READABLE)
+    }
+
+    /// What ends a wait.
+    pub fn waker(&self) -> io::Result<Waker> {
+        Waker::new(self.registry(), WAKER)
+    }
+
+    /// Waits so many milliseconds, or until something is ready, and answers whether it could.
+    pub fn wait(&mut self, millis: u64, failed: &mut u64) -> bool
+        ensures { RisesUnless result failed.old failed.new }
+    {
+        let waited = self
+            .poll
+            .poll(&mut self.events, Some(Duration::from_millis(millis)));
+        self.keep_reports();
+        if waited.is_err() {
+            *failed = failed.saturating_add(1);
+            return false;
+        }
+        true
+    }
+
+    // What the wait reported, but for a wake-up.
+    fn keep_reports(&mut self) {
+        self.reports.clear();
+        for event in self.events.iter() {
+            if let Some(report) = report_of(event) {
+                let _ = self.reports.push_back(report);
+            }
+        }
+    }
+
+    /// One report of the last wait, and only once.
+    pub fn report(&mut self) -> Option<Ready> {
+        self.reports.pop_front()
+    }
+}
+
+fn report_of(event: &Event) -> Option<Ready> {
+    let token = event.token();
+    if token == LISTENER {
+        return Some(Ready::Listener);
+    }
+    if token == WAKER {
+        return None;
+    }
+    let failed = event.is_error() || event.is_read_closed() && event.is_write_closed();
+    Some(Ready::Client {
+        c: token.0 as u64,
+        failed,
+    })
+}

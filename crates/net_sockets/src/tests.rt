@@ -1,0 +1,158 @@
+use super::{Alarm, NetFault, NetPorts, Network, TcpSocket};
+use socket_set::{Arrival, Ports, Ready, Received, Sent, Socket};
+use std::alloc::Global;
+use std::io::{Read, Write};
+use std::net::{Net, Shutdown, TcpStream};
+use std::test::Fail;
+use std::time::Clock;
+
+// So many waits at most for what has to come.
+const WAITS: u32 = 50;
+
+// The ports of a loop that listens at a free port, what wakes it, and the port.
+fn listening<R: Net + Clock + Copy + Drop>(
+    rt: R,
+    alloc: Global,
+) -> Result<(NetPorts<R>, Alarm, u16), NetFault> {
+    let mut network = Network::new(rt, alloc);
+    let listener = network.listen("127.0.0.1", 0)?;
+    let port = listener.port();
+    let (ports, alarm) = network.ports(listener)?;
+    Ok((ports, alarm, port))
+}
+
+// The next client, once it waits.
+fn accepted<R: Clock>(ports: &mut NetPorts<R>) -> Option<TcpSocket> {
+    for _ in 0..WAITS {
+        if let Arrival::Client { socket, .. } = ports.accept() {
+            return Some(socket);
+        }
+        ports.wait(100);
+    }
+    None
+}
+
+// What the socket receives, once there is anything.
+fn received(socket: &mut TcpSocket, into: &mut [u8]) -> Received {
+    for _ in 0..1_000_000 {
+        match socket.receive(into) {
+            Received::Nothing => {}
+            other => return other,
+        }
+    }
+    Received::Nothing
+}
+
+// Whether the wait reports client 7.
+fn is_reported<R: Clock>(ports: &mut NetPorts<R>, waits: u32) -> bool {
+    for _ in 0..waits {
+        ports.wait(20);
+        for _ in 0..1_000 {
+            match ports.ready() {
+                Some(Ready::Client { c: 7, .. }) => return true,
+                Some(_) => {}
+                None => break,
+            }
+        }
+    }
+    false
+}
+
+// Writes until no more is taken, and answers how many bytes were.
+fn filled(socket: &mut TcpSocket) -> u64 {
+    let piece = [b'x'; 1_024];
+    let mut taken = 0u64;
+    for _ in 0..1_000_000 {
+        match socket.send(&piece) {
+            Sent::Took(count) => taken = taken.saturating_add(count as u64),
+            Sent::Full | Sent::Failed => return taken,
+        }
+    }
+    taken
+}
+
+#[test]
+fn clients_are_accepted_until_none_waits(rt: HostRuntime) -> Result<(), Fail> {
+    let Ok((mut ports, _, port)) = listening(rt, rt.alloc()) else {
+        return Err(Fail::from("it does not listen"));
+    };
+    let first = TcpStream::connect(&rt, ("127.0.0.1", port))?;
+    let second = TcpStream::connect(&rt, ("127.0.0.1", port))?;
+    assert!(rt; accepted(&mut ports).is_some());
+    assert!(rt; accepted(&mut ports).is_some());
+    assert!(rt; matches!(ports.accept(), Arrival::Nothing));
+    drop(first);
+    drop(second);
+    Ok(())
+}
+
+#[test]
+fn bytes_go_both_ways_and_each_side_ends(rt: HostRuntime) -> Result<(), Fail> {
+    let Ok((mut ports, _, port)) = listening(rt, rt.alloc()) else {
+        return Err(Fail::from("it does not listen"));
+    };
+    let mut client = TcpStream::connect(&rt, ("127.0.0.1", port))?;
+    let Some(mut socket) = accepted(&mut ports) else {
+        return Err(Fail::from("nobody came"));
+    };
+    let mut bytes = [0u8; 8];
+    client.write_all(b"ab")?;
+    assert_eq!(rt; received(&mut socket, &mut bytes), Received::Bytes(2));
+    assert_eq!(rt; socket.receive(&mut bytes), Received::Nothing);
+    assert_eq!(rt; socket.send(b"cde"), Sent::Took(3));
+    socket.end_sending();
+    assert_eq!(rt; client.read(&mut bytes)?, 3);
+    assert_eq!(rt; client.read(&mut bytes)?, 0);
+    client.write_all(b"f")?;
+    assert_eq!(rt; received(&mut socket, &mut bytes), Received::Bytes(1));
+    client.shutdown(Shutdown::Write)?;
+    assert_eq!(rt; received(&mut socket, &mut bytes), Received::End);
+    Ok(())
+}
+
+#[test]
+fn room_is_reported_once_it_is_asked_for(rt: HostRuntime) -> Result<(), Fail> {
+    let Ok((mut ports, _, port)) = listening(rt, rt.alloc()) else {
+        return Err(Fail::from("it does not listen"));
+    };
+    let mut client = TcpStream::connect(&rt, ("127.0.0.1", port))?;
+    let Some(mut socket) = accepted(&mut ports) else {
+        return Err(Fail::from("nobody came"));
+    };
+    assert!(rt; ports.watch(&mut socket, 7, false));
+    assert!(rt;
+        !is_reported(&mut ports, 3),
+        "it has no bytes, and its room is not asked for"
+    );
+    let taken = filled(&mut socket);
+    assert!(rt; ports.watch(&mut socket, 7, true));
+    let mut bytes = [0u8; 1_024];
+    let mut left = taken;
+    for _ in 0..1_000_000 {
+        if left == 0 {
+            break;
+        }
+        left = left.saturating_sub(client.read(&mut bytes)? as u64);
+    }
+    assert!(rt; is_reported(&mut ports, WAITS), "it has room");
+    ports.forget(&mut socket);
+    client.write_all(b"a")?;
+    assert!(rt; !is_reported(&mut ports, 3), "it is forgotten");
+    Ok(())
+}
+
+#[test]
+fn an_alarm_ends_a_wait_and_the_clock_goes_on(rt: HostRuntime) -> Result<(), Fail> {
+    let Ok((mut ports, alarm, _)) = listening(rt, rt.alloc()) else {
+        return Err(Fail::from("it does not listen"));
+    };
+    alarm.another()?.ring();
+    assert!(rt; ports.wait(20_000));
+    assert!(rt; ports.ticks() < 100, "the alarm ended the wait");
+    let before = ports.ticks();
+    assert!(rt; ports.wait(150));
+    assert!(rt; ports.ticks() > before);
+    let mut network = Network::new(rt, rt.alloc());
+    assert!(rt; matches!(network.listen("nowhere", 0), Err(NetFault::Failed)));
+    Ok(())
+}

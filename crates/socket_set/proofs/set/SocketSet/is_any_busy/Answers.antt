@@ -1,0 +1,13 @@
+use Rattle.std.proofs.Common.{All}
+use Rattle.std.specs.Map.Iter.{deref_pair}
+use Rattle.std.proofs.lemmas.Map.Iter.{rest_more}
+use Rattle.std.proofs.lemmas.List.Elements.{All-cons}
+use Rattle.socket_set.specs.Clients.{IsStillOrShut}
+use Rattle.socket_set.proofs.set.SocketSet.is_any_busy.Goals as goal
+
+pub loop-client-preserved : goal.loop-client-preserved
+loop-client-preserved g c =
+    λ rest. c.loop-client.invariant (
+    rw (rest_more deref_pair _ _ _ _ c.in-Some.is c.next.ensures.steps)
+    (All-cons (λ row. IsStillOrShut row.1) _ _ (c.is_busy.ensures c.if-is_busy.false) rest)
+    )
