@@ -101,6 +101,7 @@ pub struct FakePorts {
     plan: Plan,
     comes: bool,
     reported: bool,
+    clock: u64,
     shown: u64,
     looks: u64,
     waits: u64,
@@ -114,6 +115,7 @@ impl FakePorts {
             plan,
             comes: true,
             reported: false,
+            clock: 0,
             shown: 0,
             looks: 0,
             waits: 0,
@@ -161,7 +163,7 @@ impl Ports for FakePorts {
     fn wait(&mut self, millis: u64) -> bool {
         self.waits = one_more(self.waits);
         if millis > 0 {
-            self.shown = one_more(self.shown);
+            self.clock = one_more(self.clock);
         }
         if self.plan.waits_fail {
             self.failed = one_more(self.failed);
@@ -180,6 +182,7 @@ impl Ports for FakePorts {
 
     fn ticks(&mut self) -> u64 {
         self.looks = one_more(self.looks);
+        self.shown = self.clock;
         self.shown
     }
 
