@@ -4,5 +4,6 @@ pub mod First
 pub mod Projections
 pub mod Fits
 pub mod Told
+pub mod Entries
 pub mod Account
 pub mod Decider

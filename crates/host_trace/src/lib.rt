@@ -7,4 +7,4 @@ mod world;
 
 pub use items::{Act, Event, Events, Item, Items, Why};
 pub use outside::{Acted, Outside};
-pub use world::{EnterFault, Mode, World};
+pub use world::{EnterFault, Entry, Mode, World};
