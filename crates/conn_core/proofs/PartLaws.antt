@@ -15,7 +15,8 @@ use Rattle.trace_child.specs.Words.{is_filled}
 use Rattle.conn_marks.specs.View.{View as Marks, has_room, may_write}
 use Rattle.conn_marks.specs.Form.{given_all}
 use Rattle.exchange_request.specs.declared.incoming.Incoming.{Incoming}
-use Rattle.exchange_request.specs.Knows.{is_looked_at, limits_of}
+use Rattle.request_reader.specs.Request.{is_whole_head}
+use Rattle.exchange_request.specs.Knows.{Knows, is_looked_at, is_ready, limits_of}
 use Rattle.exchange_stage.specs.declared.stage.Leg.{Leg}
 use Rattle.exchange_stage.specs.declared.stage.Stage.{Stage}
 use Rattle.exchange_stage.specs.declared.stage.Stage.TheVariants as At
@@ -26,8 +27,8 @@ use Rattle.conn_core.specs.declared.conn.Conn.{Conn}
 use Rattle.conn_core.specs.Begins.{ReadiesAnswer, ReadiesHop, silenced}
 use Rattle.conn_core.specs.Kept.{Gave, Kept, front_of, is_reading, number_of, peer_of, site_of}
 use Rattle.conn_core.specs.Moves.{ended_run, losing}
-use Rattle.conn_core.specs.Parts.{Answers, Begins, Deed, FinishesBy, Feeds, Gives, GivesBy, GivesHop, GivesHopBy, GivesUp, LooksAt, Loses, LosesFeed, LosesReady, LosesText, LosesTurn, MakesHopReady, MakesReady, Nothing, Or, Part, ReadsBy, ReadsOn, Round, RoundsOn, ServesBy, ServesChild, ServesRun, SomeRounds, StartsRun, Then, WritesPart, WritesRest, gives_all, run_begun, the_one, the_other}
-use Rattle.conn_core.specs.Ready.{Lacks, Looks as LooksTo, outcome_of_run}
+use Rattle.conn_core.specs.Parts.{Answers, Begins, Deed, FinishesBy, Feeds, Gives, GivesBy, GivesHop, GivesHopBy, GivesUp, LooksAt, Loses, LosesFeed, LosesLook, LosesReady, LosesText, LosesTurn, MakesHopReady, MakesReady, Nothing, Or, Part, ReadsBy, ReadsOn, Round, Rounds, RoundsOn, ServesBy, ServesChild, ServesRun, SomeRounds, StartsRun, Then, WritesPart, WritesRest, gives_all, run_begun, the_one, the_other}
+use Rattle.conn_core.specs.Ready.{Lacks, Looks as LooksTo, MayLack, outcome_of_run}
 use Rattle.conn_core.specs.Reasons.{ends_with}
 use Rattle.conn_core.specs.Settles.{Settles, is_answered, stood}
 use Rattle.conn_core.specs.Slot.{run_settled}
@@ -152,7 +153,7 @@ reading_first conn e = and_first (is_reading conn.stage) (not (is_looked_at conn
 pub lost_looking : {old new : Conn} {i : Incoming} → new ≡ losing (record old { request = i }) → limits_of i ≡ limits_of old.request → GivesUp old new
 lost_looking {old} {new} {i} is limits = subst (λ (conn : Conn). GivesUp old conn) (sym is) (record { is = refl; limits = limits; answered = refl })
 
-reads_unread : {old new : Conn} {n : ℕ} (ending unread : Bool) → ending ≡ false → unread ≡ true → Or LooksAt Loses old n [] new → ReadsBy ending unread old n [] new
+reads_unread : {old new : Conn} {n : ℕ} (ending unread : Bool) → ending ≡ false → unread ≡ true → Or LooksAt LosesLook old n [] new → ReadsBy ending unread old n [] new
 reads_unread true unread e u d = absurd (false≢true (sym e))
 reads_unread false false e u d = absurd (false≢true u)
 reads_unread false true e u d = d
@@ -170,11 +171,11 @@ looked_at {old} {new} n ending tells on unread lost looks = record {
 }
 
 pub lost_at_look : {old new : Conn} (n : ℕ) (ending : Bool) → TellsEnding old ending → ending ≡ false → (is_reading old.stage && not (is_looked_at old.request)) ≡ true
-    → GivesUp old new → ReadsOn old n [] new
-lost_at_look {old} {new} n ending tells on unread up = record {
+    → GivesUp old new → ((bytes : List ℕ) → Knows old.request bytes 0 → is_ready old.request ≡ false → is_whole_head (limits_of old.request) bytes ≡ true) → ReadsOn old n [] new
+lost_at_look {old} {new} n ending tells on unread up heard = record {
   ending = ending;
   tells = tells;
-  by = reads_unread ending (is_reading old.stage && not (is_looked_at old.request)) on unread (the_other (record { none = refl; gives_up = up }));
+  by = reads_unread ending (is_reading old.stage && not (is_looked_at old.request)) on unread (the_other (record { loses = record { none = refl; gives_up = up }; heard = heard }));
 }
 
 -- ---- the answer
@@ -184,8 +185,8 @@ pub gave_ready : {stamp : Option ℕ} {old new : Conn} {n : ℕ} {b : Option (Li
 gave_ready k found ready = gave_part (gave_turned (kept_turned k (λ i. record { none = refl; found = found; readies = ready })))
 
 pub gave_ready_lost : {old new : Conn} {n : ℕ} {b : Option (List Item)} → Kept old new → GivesUp old new
-    → ((leg : Leg) → old.stage ≡ Running leg → outcome_of_run old.run ≡ Some Output → Lacks leg.reply) → Gave (Part LosesReady) old n b new n b
-gave_ready_lost k up lacks = gave_part (gave_turned (kept_turned k (λ i. record { loses = record { none = refl; gives_up = up }; lacks = lacks })))
+    → ((leg : Leg) → old.stage ≡ Running leg → outcome_of_run old.run ≡ Some Output → Lacks leg.reply) → MayLack old old.stage → Gave (Part LosesReady) old n b new n b
+gave_ready_lost k up lacks may = gave_part (gave_turned (kept_turned k (λ i. record { loses = record { none = refl; gives_up = up }; lacks = lacks; may = may })))
 
 pub gave_hop_ready : {stamp : Option ℕ} {old new : Conn} {n : ℕ} {b : Option (List Item)} → Kept old new → new.lost ≡ false → ReadiesHop old.stage stamp old new
     → Gave (Part (MakesHopReady stamp)) old n b new n b
@@ -207,7 +208,7 @@ same_leg e = cc
 -- ---- what is ready is given
 
 abbrev PartWritten : Leg → Deed
-PartWritten leg = Or (Part (WritesPart leg)) (Part Loses)
+PartWritten leg = Or (Part (WritesPart leg)) (Part (LosesText leg.text))
 
 -- a part was written, or there was no room for it
 pub gave_part_written : {old mid new : Conn} {n : ℕ} {b d : Option (List Item)} (leg : Leg) (found : Bool) → is_answered old.stage ≡ false → is_answered new.stage ≡ false
@@ -235,8 +236,11 @@ gave_part_written {old} {mid} {new} {n} {b} {d} leg found before after k put g =
         let is : new ≡ record (losing old) { stage = Running (record leg { text = [] }) } =
         put ∙ ap (λ (conn : Conn). record conn { stage = Running (record leg { text = [] }) }) lost in
         record {
-          none = w.moves_are ∙ (ap (λ (f : Bool). gives_all (acts_written old.marks.c leg.text f)) found_is ∙ ap (λ (t : List ℕ). gives_all (acts_written old.marks.c t false)) text_is);
-          gives_up = subst (λ (conn : Conn). GivesUp old conn) (sym is) (record { is = refl; limits = refl; answered = sym before });
+          filled = ap (λ (t : List ℕ). is_filled t) text_is;
+          loses = record {
+            none = w.moves_are ∙ (ap (λ (f : Bool). gives_all (acts_written old.marks.c leg.text f)) found_is ∙ ap (λ (t : List ℕ). gives_all (acts_written old.marks.c t false)) text_is);
+            gives_up = subst (λ (conn : Conn). GivesUp old conn) (sym is) (record { is = refl; limits = refl; answered = sym before });
+          };
         })))
 
 -- the rest was written, and the whole answer stands
@@ -329,7 +333,8 @@ gave_answer_part {old} {mid} {new} {n} {b} {d} stage leg taken is rest k g =
 
     go : (moves : List Move) → PartWritten leg (silenced old) n moves new → PartWritten leg old n moves new
     go moves (the_one p) = the_one (part_from kept (λ w. record { moves_are = w.moves_are; is = w.is ∙ parts leg.text }) p)
-    go moves (the_other p) = the_other (part_from kept (λ l. record { none = l.none; gives_up = given_up_from (ap is_answered at) l.gives_up }) p)
+    go moves (the_other p) =
+        the_other (part_from kept (λ l. record { filled = l.filled; loses = record { none = l.loses.none; gives_up = given_up_from (ap is_answered at) l.loses.gives_up } }) p)
 
 -- a stage of which nothing is given is put back
 pub gave_back : {A : Deed} {old new : Conn} {n : ℕ} {b : Option (List Item)} → new ≡ old → A old n [] old → Gave A old n b new n b
@@ -433,33 +438,56 @@ given_up_unfed (Some v) f =
 
 -- ---- rounds
 
-pub gave_no_rounds : {stamp : Option ℕ} (conn : Conn) {n : ℕ} {b : Option (List Item)} → Gave (SomeRounds stamp) conn n b conn n b
-gave_no_rounds conn = gave_as (λ moves d. (zero, d)) (gave_nothing conn)
+pub gave_no_rounds : {stamp : Option ℕ} (conn : Conn) {n : ℕ} {b : Option (List Item)} → Gave (SomeRounds false stamp) conn n b conn n b
+gave_no_rounds conn = gave_as (λ moves d. (zero, λ more. absurd (false≢true more), d)) (gave_nothing conn)
 
-pub gave_round : {stamp : Option ℕ} {old mid new : Conn} {n m l : ℕ} {a b d : Option (List Item)} → Gave (SomeRounds stamp) old n a mid m b → TellsMore mid true
-    → Gave (Then (Answers stamp) (Begins stamp)) mid m b new l d → Gave (SomeRounds stamp) old n a new l d
-gave_round {stamp} {old} {mid} {new} {n} {m} {l} {a} {b} {d} g more h = gave_as counted (gave_then g (gave_as round h))
+-- one round more is one at least
+pub gave_round : {stamp : Option ℕ} {old mid new : Conn} {n m l : ℕ} {a b d : Option (List Item)} (more : Bool) → Gave (SomeRounds false stamp) old n a mid m b → TellsMore mid true
+    → Gave (Then (Answers stamp) (Begins stamp)) mid m b new l d → Gave (SomeRounds more stamp) old n a new l d
+gave_round {stamp} {old} {mid} {new} {n} {m} {l} {a} {b} {d} more g on h = gave_as counted (gave_then g (gave_as round h))
   where
     round : (moves : List Move) → Then (Answers stamp) (Begins stamp) mid m moves new → Round stamp mid m moves new
-    round moves t = record { more = more; does = t }
+    round moves t = record { more = on; does = t }
 
-    counted : (moves : List Move) → Then (SomeRounds stamp) (Round stamp) old n moves new → SomeRounds stamp old n moves new
-    counted moves t = (suc t.first.0, record { mid = t.mid; sooner = t.sooner; later = t.later; are = t.are; first = t.first.1; second = t.second })
+    not_none : (turns : ℕ) → suc turns ≡ 0 → ⊥
+    not_none turns e = absurd (cc)
 
-pub gave_rest : {stamp : Option ℕ} {old mid new : Conn} {n m : ℕ} {b d : Option (List Item)} → Gave (SomeRounds stamp) old n b mid m d → Kept mid new
+    counted : (moves : List Move) → Then (SomeRounds false stamp) (Round stamp) old n moves new → SomeRounds more stamp old n moves new
+    counted moves t =
+        (suc t.first.0, λ is. not_none t.first.0, record { mid = t.mid; sooner = t.sooner; later = t.later; are = t.are; first = t.first.2; second = t.second })
+
+-- nothing may go on, or so many were made, and memory counts as wanting
+pub gave_rest : {stamp : Option ℕ} {old mid new : Conn} {n m : ℕ} {b d : Option (List Item)} (more : Bool) → more ≡ true → Gave (SomeRounds more stamp) old n b mid m d → Kept mid new
     → (new ≡ mid) ⊎ (TellsMore mid true × GivesUp mid new) → TellsMore new false → Gave (RoundsOn stamp) old n b new m d
-gave_rest {stamp} {old} {mid} {new} {n} {m} {b} {d} g k or_lost rests = gave_as all (gave_then g (last or_lost))
+gave_rest {stamp} {old} {mid} {new} {n} {m} {b} {d} more is g k or_lost rests = gave_as all (gave_then g (last or_lost))
   where
     last : (new ≡ mid) ⊎ (TellsMore mid true × GivesUp mid new) → Gave (Or Nothing (Part LosesTurn)) mid m d new m d
     last (inl same) = gave_back same (the_one (record { none = refl; same = refl }))
     last (inr lost) =
         gave_as (λ moves p. the_other p) (gave_part (gave_turned (kept_turned k (λ i. record { more = lost.0; loses = record { none = refl; gives_up = lost.1 } }))))
 
-    all : (moves : List Move) → Then (SomeRounds stamp) (Or Nothing (Part LosesTurn)) old n moves new → RoundsOn stamp old n moves new
+    all : (moves : List Move) → Then (SomeRounds more stamp) (Or Nothing (Part LosesTurn)) old n moves new → RoundsOn stamp old n moves new
     all moves t = record {
       turns = t.first.0;
-      does = record { mid = t.mid; sooner = t.sooner; later = t.later; are = t.are; first = t.first.1; second = t.second };
+      does = record { mid = t.mid; sooner = t.sooner; later = t.later; are = t.are; first = t.first.2; second = t.second };
       rests = rests;
+      none = λ zeros. absurd (t.first.1 is zeros);
+    }
+
+pub gave_rested : {stamp : Option ℕ} {old new : Conn} {n m : ℕ} {b d : Option (List Item)} (more : Bool) → Gave (SomeRounds more stamp) old n b new m d → TellsMore new false
+    → Gave (RoundsOn stamp) old n b new m d
+gave_rested {stamp} {old} {new} {n} {m} {b} {d} more g rests = gave_as all (gave_then g (gave_nothing new))
+  where
+    none_of : (turns : ℕ) (moves : List Move) (mid : Conn) → Rounds turns stamp old n moves mid → turns ≡ 0 → mid ≡ old
+    none_of zero moves mid r e = r.same
+    none_of (suc turns) moves mid r e = absurd (cc)
+
+    all : (moves : List Move) → Then (SomeRounds more stamp) Nothing old n moves new → RoundsOn stamp old n moves new
+    all moves t = record {
+      turns = t.first.0;
+      does = record { mid = t.mid; sooner = t.sooner; later = t.later; are = t.are; first = t.first.2; second = the_one t.second };
+      rests = rests;
+      none = λ zeros. t.second.same ∙ none_of t.first.0 t.sooner t.mid t.first.2 zeros;
     }
 
 -- ---- memory is wanting

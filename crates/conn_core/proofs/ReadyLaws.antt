@@ -1,5 +1,5 @@
 -- What the reply of a leg gives, hands out and fails with.
-use Rattle.std.proofs.Common.{◌≡◌, ℕ, ◌==◌, Bool, true, false, ◌||◌, List, [], ◌++◌, length, Option, Some, None, Result, Ok, Err, IfOk, refl, sym, ap, ◌∙◌, subst}
+use Rattle.std.proofs.Common.{◌≡◌, ℕ, ◌==◌, Bool, true, false, ◌||◌, List, [], ◌++◌, length, Option, Some, None, Result, Ok, Err, IfOk, OnErr, refl, sym, ap, ◌∙◌, subst}
 use Rattle.std.proofs.lemmas.Bool.{false≢true}
 use Rattle.host_base.specs.declared.cause.Cause.{Cause}
 use Rattle.reply_kinds.specs.Derived.{is_header_whole}
@@ -8,9 +8,16 @@ use Rattle.reply_stream.specs.declared.stream.Last.{Last}
 use Rattle.reply_stream.specs.declared.stream.Last.TheVariants as Ended
 use Rattle.reply_stream.specs.Writing.{Stood, nothing, begun, is_begun}
 use Rattle.exchange_reply.specs.declared.reply.LegReply.{LegReply}
-use Rattle.exchange_reply.specs.Reply.{Fails, Gives, Knows, MayEndWithout, SpellsFault}
+use Rattle.exchange_reply.specs.Reply.{Fails, Gives, Knows, MayEndWithout, MayTickWithout, SpellsFault}
 use Rattle.exchange_reply.specs.Standings.{Ends}
-use Rattle.conn_core.specs.Ready.{EndsAs, HearsPiece, HearsTick, Lacks}
+use Rattle.exchange_reply.proofs.KnownLaws.{gives_tick}
+use Rattle.reply_stream.specs.declared.stage.Flow.{Flow}
+use Rattle.reply_stream.specs.declared.stage.Stage.{Stage as At}
+use Rattle.reply_stream.specs.declared.stage.Stage.TheVariants.{Going, Ready, Settled, Waiting}
+use Rattle.reply_stream.specs.Hearing.{Told}
+use Rattle.reply_stream.specs.Stages.{IsAtStage}
+use Rattle.reply_stream.proofs.StageLaws.{going_tick}
+use Rattle.conn_core.specs.Ready.{EndsAs, HearsPiece, HearsTick, Lacks, LacksTick}
 
 pub hears_piece : {E : Type 0} (result : Result (List ℕ) E) (old new : LegReply) (piece : List ℕ) (closes : Bool) (now : Option ℕ)
     → ((asked : Asked) (told : List ℕ) (ticked : Bool) (stood : Stood) → Knows old asked told ticked stood
@@ -25,6 +32,28 @@ pub hears_tick : {E : Type 0} (result : Result (List ℕ) E) (old new : LegReply
     → IfOk result (λ text. HearsTick old closes now text new)
 hears_tick (Ok text) old new closes now h = h
 hears_tick (Err e) old new closes now h = tt
+
+-- a reply that has begun writes nothing for a Tick
+begun_going : (asked : Asked) (told : List Told) (held : List ℕ) (stage : At) (close : Bool) (stamp : Option ℕ) (bytes : List ℕ) → IsAtStage asked told held stage (begun close stamp bytes)
+    → (flow : Flow) × (stage ≡ Going flow)
+begun_going asked told held (Waiting search) close stamp bytes is = absurd is
+begun_going asked told held Ready close stamp bytes is = absurd is
+begun_going asked told held Settled close stamp bytes is = absurd is
+begun_going asked told held (Going flow) close stamp bytes is = (flow, refl)
+
+pub begun_ticks : (reply : LegReply) (closes : Bool) (now : Option ℕ)
+    → ((asked : Asked) (told : List ℕ) (ticked : Bool) (stood : Stood) → Knows reply asked told ticked stood → true ≡ is_begun stood) → HearsTick reply closes now [] reply
+begun_ticks reply closes now has asked told ticked nothing k = absurd (false≢true (sym (has asked told ticked nothing k)))
+begun_ticks reply closes now has asked told ticked (begun close stamp bytes) k =
+    let going = begun_going asked k.told reply.stream.held reply.stream.stage close stamp bytes k.is_at.stage_is in
+    gives_tick asked told ticked closes now (begun close stamp bytes) [] reply reply k refl k.closes_is (going_tick asked k.told closes now (begun close stamp bytes) reply.stream going.0 going.1 k.is_at)
+
+-- memory was wanting for the Tick that came
+pub lacks_tick : {E : Type 0} (result : Result (List ℕ) E) (reply : LegReply) (came : Bool) → came ≡ true
+    → ((asked : Asked) (told : List ℕ) (ticked : Bool) (stood : Stood) → Knows reply asked told ticked stood → OnErr result (MayTickWithout asked told ticked stood))
+    → OnErr result ((came ≡ true) × LacksTick reply)
+lacks_tick (Ok text) reply came is m = tt
+lacks_tick (Err e) reply came is m = (is, m)
 
 pub not_empty : (text piece : List ℕ) → (length piece == 0) ≡ false → piece ≡ [] → text ≡ []
 not_empty text piece some none = absurd (false≢true (sym some ∙ ap (λ (l : List ℕ). length l == 0) none))

@@ -12,3 +12,5 @@ pub mod Hears
 pub mod Parts
 pub mod Step
 pub mod Laws
+pub mod Fits
+pub mod Kid

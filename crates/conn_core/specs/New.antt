@@ -13,4 +13,5 @@ pub record IsNew (conn : Conn) : Type 0 where
   pub reads : conn.stage ≡ Reading
   pub run : conn.run ≡ None
   pub unclosed : conn.closes ≡ false
+  pub uncut : conn.cut ≡ None
   pub front : IsFresh (site_of conn) (front_of conn)

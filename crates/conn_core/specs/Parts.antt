@@ -16,7 +16,8 @@ use Rattle.child_core.specs.View.{View, begun}
 use Rattle.trace_child.specs.Words.{is_filled}
 use Rattle.conn_marks.specs.View.{has_room, is_live, noted}
 use Rattle.conn_marks.specs.Form.{given_all}
-use Rattle.exchange_request.specs.Knows.{is_looked_at, limits_of}
+use Rattle.request_reader.specs.Request.{is_whole_head}
+use Rattle.exchange_request.specs.Knows.{Knows, is_looked_at, is_ready, limits_of}
 use Rattle.exchange_stage.specs.declared.stage.Leg.{Leg}
 use Rattle.exchange_stage.specs.declared.stage.Stage.{Stage}
 use Rattle.exchange_stage.specs.declared.stage.Stage.TheVariants.{Finishing, Running, Starting}
@@ -25,7 +26,7 @@ use Rattle.conn_core.specs.declared.conn.Conn.{Conn}
 use Rattle.conn_core.specs.Begins.{ReadiesAnswer, ReadiesHop}
 use Rattle.conn_core.specs.Kept.{Leads, is_reading, marks_of, number_of, peer_of, site_of}
 use Rattle.conn_core.specs.Moves.{given_up_by, losing}
-use Rattle.conn_core.specs.Ready.{Lacks, Looks, outcome_of_run}
+use Rattle.conn_core.specs.Ready.{Lacks, Looks, MayLack, outcome_of_run, waits_at}
 use Rattle.conn_core.specs.Tells.{TellsAsk, TellsContinue, TellsEnding, TellsMore, TellsTurn, TellsWhy}
 use Rattle.conn_core.specs.Settles.{Follows, ending_of, is_answered, is_over, stood}
 use Rattle.conn_core.specs.Writes.{acts_written, continued, wrote}
@@ -97,9 +98,14 @@ pub record LooksAt (old : Conn) (n : ℕ) (moves : List Move) (new : Conn) : Typ
   pub found : new.lost ≡ false
   pub looked : Looks old new
 
+-- memory was wanting for it: a whole head was heard
+pub record LosesLook (old : Conn) (n : ℕ) (moves : List Move) (new : Conn) : Type 0 where
+  pub loses : Loses old n moves new
+  pub heard : (bytes : List ℕ) → Knows old.request bytes 0 → is_ready old.request ≡ false → is_whole_head (limits_of old.request) bytes ≡ true
+
 -- nothing ends the connection, and bytes came that nobody has looked at while the request is read
 abbrev pub ReadsBy : Bool → Bool → Deed
-ReadsBy false true old n moves new = Or LooksAt Loses old n moves new
+ReadsBy false true old n moves new = Or LooksAt LosesLook old n moves new
 ReadsBy _ _ old n moves new = Nothing old n moves new
 
 pub record ReadsOn (old : Conn) (n : ℕ) (moves : List Move) (new : Conn) : Type 0 where
@@ -132,6 +138,7 @@ pub record MakesReady (stamp : Option ℕ) (old : Conn) (n : ℕ) (moves : List 
 pub record LosesReady (old : Conn) (n : ℕ) (moves : List Move) (new : Conn) : Type 0 where
   pub loses : Loses old n moves new
   pub lacks : (leg : Leg) → old.stage ≡ Running leg → outcome_of_run old.run ≡ Some Output → Lacks leg.reply
+  pub may : MayLack old old.stage
 
 -- a part of a reply is written
 pub record WritesPart (leg : Leg) (old : Conn) (n : ℕ) (moves : List Move) (new : Conn) : Type 0 where
@@ -152,7 +159,7 @@ abbrev pub FinishesBy : List ℕ → Bool → Deed
 FinishesBy text closes = Or (Then (Part (WritesRest text closes)) (Part Ends)) (Part (LosesText text))
 
 abbrev pub GivesBy : Stage → Deed
-GivesBy (Running leg) old n moves new = Or (Part (WritesPart leg)) (Part Loses) old n moves new
+GivesBy (Running leg) old n moves new = Or (Part (WritesPart leg)) (Part (LosesText leg.text)) old n moves new
 GivesBy (Finishing text closes) old n moves new = FinishesBy text closes old n moves new
 GivesBy _ old n moves new = Nothing old n moves new
 
@@ -236,8 +243,13 @@ GivesHopBy _ old n moves new = Nothing old n moves new
 abbrev pub GivesHop : Deed
 GivesHop old n moves new = GivesHopBy old.stage old n moves new
 
+-- memory was wanting for it
+pub record LosesHop (old : Conn) (n : ℕ) (moves : List Move) (new : Conn) : Type 0 where
+  pub loses : Loses old n moves new
+  pub waits : waits_at old.stage ≡ true
+
 abbrev pub BeginsBy : Bool → Option ℕ → Deed
-BeginsBy true stamp old n moves new = Or (Then (Part (MakesHopReady stamp)) GivesHop) (Part Loses) old n moves new
+BeginsBy true stamp old n moves new = Or (Then (Part (MakesHopReady stamp)) GivesHop) (Part LosesHop) old n moves new
 BeginsBy false stamp old n moves new = Nothing old n moves new
 
 -- where it has its turn
@@ -258,8 +270,9 @@ abbrev pub Rounds : ℕ → Option ℕ → Deed
 Rounds zero stamp old n moves new = Nothing old n moves new
 Rounds (suc turns) stamp old n moves new = Then (Rounds turns stamp) (Round stamp) old n moves new
 
-abbrev pub SomeRounds : Option ℕ → Deed
-SomeRounds stamp old n moves new = (turns : ℕ) × Rounds turns stamp old n moves new
+-- .. of which there is one at least where more may go on
+abbrev pub SomeRounds : Bool → Option ℕ → Deed
+SomeRounds more stamp old n moves new = (turns : ℕ) × (more ≡ true → turns ≡ 0 → ⊥) × Rounds turns stamp old n moves new
 
 -- something might go on, and doesn't: memory counts as wanting
 pub record LosesTurn (old : Conn) (n : ℕ) (moves : List Move) (new : Conn) : Type 0 where
@@ -271,6 +284,8 @@ pub record RoundsOn (stamp : Option ℕ) (old : Conn) (n : ℕ) (moves : List Mo
   pub turns : ℕ
   pub does : Then (Rounds turns stamp) (Or Nothing (Part LosesTurn)) old n moves new
   pub rests : TellsMore new false
+  -- where there was no round nothing is given up
+  pub none : turns ≡ 0 → new ≡ old
 
 abbrev pub Serves : Option ℕ → Deed
 Serves stamp = Then (Answers stamp) (Then Handles (RoundsOn stamp))

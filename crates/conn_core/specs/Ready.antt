@@ -10,7 +10,9 @@ use Rattle.reply_stream.specs.declared.asked.Asked.{Asked}
 use Rattle.reply_stream.specs.declared.stream.Last.{Last}
 use Rattle.reply_stream.specs.declared.stream.Last.TheVariants as Ended
 use Rattle.reply_stream.specs.Writing.{Stood, is_begun}
+use Rattle.trace_child.specs.Words.{is_filled}
 use Rattle.child_core.specs.declared.ending.Outcome.{Outcome}
+use Rattle.child_core.specs.declared.ending.Outcome.TheVariants.{Failed, Output}
 use Rattle.child_core.specs.Calls.{drained}
 use Rattle.child_core.specs.View.{View}
 use Rattle.trace_model.specs.Answer.{request_of_hop}
@@ -20,11 +22,11 @@ use Rattle.exchange_request.specs.Knows.{Finds, Knows, is_read, is_ready, limits
 use Rattle.exchange_request.specs.declared.found.Found.{Found}
 use Rattle.exchange_request.specs.declared.found.Found.TheVariants as Seen
 use Rattle.exchange_reply.specs.declared.reply.LegReply.{LegReply}
-use Rattle.exchange_reply.specs.Reply.{Gives, Knows as KnowsReply, MayEndWithout, SpellsFault, closes_of}
+use Rattle.exchange_reply.specs.Reply.{Gives, Knows as KnowsReply, MayEndWithout, MayTickWithout, SpellsFault, closes_of}
 use Rattle.exchange_reply.specs.Standings.{Ends}
 use Rattle.exchange_stage.specs.declared.stage.Leg.{Leg}
 use Rattle.exchange_stage.specs.declared.stage.Stage.{Stage}
-use Rattle.exchange_stage.specs.declared.stage.Stage.TheVariants.{Finishing, Refused, Rejected, Running, Unstarted}
+use Rattle.exchange_stage.specs.declared.stage.Stage.TheVariants.{Finishing, Interrupted, Refused, Rejected, Running, Unstarted}
 use Rattle.conn_core.specs.declared.conn.Conn.{Conn}
 use Rattle.conn_core.specs.Kept.{is_reading, site_of}
 
@@ -85,6 +87,10 @@ pub record Faults (cause : Cause) (bare closes : Bool) (stamp : Option ℕ) (old
 
 -- ---- while the output goes on
 
+-- a byte of the reply was written, or none was
+abbrev pub HasBegun : LegReply → Bool → Type 0
+HasBegun reply begun = (asked : Asked) (told : List ℕ) (ticked : Bool) (stood : Stood) → KnowsReply reply asked told ticked stood → begun ≡ is_begun stood
+
 -- what the reply gives for this output, whatever it knew before
 abbrev pub HearsPiece : LegReply → List ℕ → Bool → Option ℕ → List ℕ → LegReply → Type 0
 HearsPiece old piece closes stamp text new =
@@ -105,7 +111,9 @@ pub record Tells (leg : Leg) (stamp : Option ℕ) (old new : Conn) : Type 0 wher
   pub closes_is : (bytes : List ℕ) → ReadsAll old bytes → closes ≡ closes_with old leg.kind bytes
   pub is : new ≡ record old { run = drained_run old.run; stage = Running (record leg { reply = reply; ticked = false; text = text }) }
   pub piece : leg.ticked ≡ false → HearsPiece leg.reply (undrained old.run) closes stamp text reply
+  pub none : leg.ticked ≡ false → undrained old.run ≡ [] → text ≡ []
   pub tick : leg.ticked ≡ true → undrained old.run ≡ [] → HearsTick leg.reply closes stamp text reply
+  pub filled : leg.ticked ≡ true → undrained old.run ≡ [] → is_filled text ≡ true → HasBegun leg.reply false
 
 -- ---- once it has ended
 
@@ -144,10 +152,6 @@ Lacks reply = (asked : Asked) (told : List ℕ) (ticked : Bool) (stood : Stood) 
 
 -- ---- its run failed
 
--- a byte of the reply was written, or none was
-abbrev pub HasBegun : LegReply → Bool → Type 0
-HasBegun reply begun = (asked : Asked) (told : List ℕ) (ticked : Bool) (stood : Stood) → KnowsReply reply asked told ticked stood → begun ≡ is_begun stood
-
 abbrev pub BreaksBy : Leg → Cause → Bool → Option ℕ → Conn → Conn → Bool → Type 0
 BreaksBy leg cause closes stamp old new true = new ≡ record old { cut = Some cause }
 BreaksBy leg cause closes stamp old new false =
@@ -160,3 +164,29 @@ pub record Breaks (leg : Leg) (cause : Cause) (stamp : Option ℕ) (old new : Co
   pub begun : Bool
   pub begun_is : HasBegun leg.reply begun
   pub by : BreaksBy leg cause closes stamp old new begun
+
+-- ---- memory may be wanting
+
+-- for a Tick, whatever the reply knew before
+abbrev pub LacksTick : LegReply → Type 0
+LacksTick reply = (asked : Asked) (told : List ℕ) (ticked : Bool) (stood : Stood) → KnowsReply reply asked told ticked stood → MayTickWithout asked told ticked stood
+
+-- for a reply, by what decided its run: where output or a Tick came, where the output ended, and where none had begun
+abbrev pub MayLackReply : Option Outcome → Leg → Option View → Type 0
+MayLackReply None leg run = undrained run ≡ [] → (leg.ticked ≡ true) × LacksTick leg.reply
+MayLackReply (Some Output) leg run = Lacks leg.reply
+MayLackReply (Some (Failed cause)) leg run = HasBegun leg.reply false
+MayLackReply (Some outcome) leg run = ⊥
+
+-- for what is due of an answer
+abbrev pub MayLack : Conn → Stage → Type 0
+MayLack conn (Rejected cause bare) = Unit {0}
+MayLack conn (Interrupted cause) = Unit {0}
+MayLack conn (Running leg) = MayLackReply (outcome_of_run conn.run) leg conn.run
+MayLack conn stage = ⊥
+
+-- for a hop, or what was found on the way to it
+abbrev pub waits_at : Stage → Bool
+waits_at (Refused cause) = true
+waits_at (Unstarted hop request) = true
+waits_at stage = false

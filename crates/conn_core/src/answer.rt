@@ -1,8 +1,9 @@
 // What is to be written of an answer.
-ghost use Rattle.std.specs.Prelude.{◌≡◌, IfOk, IfSome, Some, true, false, [], option_map};
+ghost use Rattle.std.specs.Prelude.{◌≡◌, IfOk, IfSome, OnErr, Some, true, false, [], option_map};
+ghost use Rattle.trace_child.specs.Words.{is_filled};
 ghost use Rattle.trace_model.specs.Answer.{request_of_hop};
 ghost use Rattle.trace_model.specs.Readings.{is_head_request};
-ghost use Rattle.conn_core.specs.Ready.{HearsPiece, HearsTick};
+ghost use Rattle.conn_core.specs.Ready.{HasBegun, HearsPiece, HearsTick, LacksTick};
 ghost use Rattle.reply_writer.specs.WholeRules.{IsStamp};
 
 use crate::conn::Conn;
@@ -26,6 +27,7 @@ fn heard_text(
     requires { IsStamp now }
     ensures piece { IfOk result (λ text. HearsPiece reply.old piece closes now text reply.new) }
     ensures none { piece ≡ [] → (reply.new ≡ reply.old) × IfOk result (λ text. text ≡ []) }
+    ensures some { OnErr result (is_filled piece ≡ true) }
 {
     if piece.is_empty() {
         return Ok(piece);
@@ -33,7 +35,7 @@ fn heard_text(
     reply.hear(piece, closes, now)
 }
 
-// What is to be written because of a Tick, if one came.
+// What is to be written because of a Tick, if one came: of a reply that has begun nothing is.
 fn ticked_text(
     alloc: Global,
     reply: &mut LegReply,
@@ -44,8 +46,10 @@ fn ticked_text(
     requires { IsStamp now }
     ensures none { came ≡ false → (reply.new ≡ reply.old) × IfOk result (λ text. text ≡ []) }
     ensures tick { came ≡ true → IfOk result (λ text. HearsTick reply.old closes now text reply.new) }
+    ensures filled { IfOk result (λ text. is_filled text ≡ true → HasBegun reply.old false) }
+    ensures lacks { OnErr result ((came ≡ true) × LacksTick reply.old) }
 {
-    if came {
+    if came && !reply.has_begun() {
         reply.tick(closes, now)
     } else {
         Ok(Bytes::new(alloc))
@@ -75,7 +79,7 @@ pub(crate) fn is_head(request: &Request) -> bool
 }
 
 impl<'s> Conn<'s> {
-    ghost use Rattle.std.specs.Prelude.{ℕ, ◌≡◌, IfOk};
+    ghost use Rattle.std.specs.Prelude.{ℕ, ◌≡◌, IfOk, OnErr};
     ghost use Rattle.std.specs.Prelude.{List, None, Some, true, false, []};
     ghost use Rattle.child_core.specs.declared.ending.Outcome.TheVariants.{Output};
     ghost use Rattle.exchange_stage.specs.declared.stage.Leg.{Leg};
@@ -84,7 +88,7 @@ impl<'s> Conn<'s> {
     ghost use Rattle.conn_core.specs.Kept.{Gave, Kept, site_of};
     ghost use Rattle.conn_core.specs.Begins.{ByOutcome, ReadiesAnswer};
     ghost use Rattle.conn_core.specs.Parts.{GivesUp};
-    ghost use Rattle.conn_core.specs.Ready.{Breaks, Concludes, Faults, HearsPiece, HearsTick, Lacks, ReadsAll, Tells, closes_with, drained_run, outcome_of_run, stage_of_hop, undrained};
+    ghost use Rattle.conn_core.specs.Ready.{Breaks, Concludes, Faults, HearsPiece, HearsTick, HasBegun, Lacks, LacksTick, MayLack, MayLackReply, ReadsAll, Tells, closes_with, drained_run, outcome_of_run, stage_of_hop, undrained};
     ghost use Rattle.reply_writer.specs.WholeRules.{IsStamp};
 
     // Makes ready what is due of the exchange's answer.
@@ -94,6 +98,7 @@ impl<'s> Conn<'s> {
         ensures gives_up { self.old.lost ≡ false → self.new.lost ≡ true → GivesUp self.old self.new }
         ensures lacks { (leg : Leg) → self.old.stage ≡ Running leg → outcome_of_run self.old.run ≡ Some Output
             → self.old.lost ≡ false → self.new.lost ≡ true → Lacks leg.reply }
+        ensures may { self.old.lost ≡ false → self.new.lost ≡ true → MayLack self.old self.old.stage }
         ensures answer { self.new.lost ≡ false → ReadiesAnswer self.old.stage now self.old self.new }
     {
         match self.take_stage() {
@@ -135,6 +140,7 @@ impl<'s> Conn<'s> {
         ensures kept { Kept self.old self.new }
         ensures gives_up { self.old.lost ≡ false → self.new.lost ≡ true → GivesUp self.old self.new }
         ensures lacks { outcome_of_run self.old.run ≡ Some Output → self.old.lost ≡ false → self.new.lost ≡ true → Lacks leg.reply }
+        ensures may { self.old.lost ≡ false → self.new.lost ≡ true → MayLackReply (outcome_of_run self.old.run) leg self.old.run }
         ensures by { self.new.lost ≡ false → ByOutcome (outcome_of_run self.old.run) leg now self.old self.new }
     {
         match self.outcome() {
@@ -166,6 +172,7 @@ impl<'s> Conn<'s> {
         requires { IsStamp now }
         ensures kept { Kept self.old self.new }
         ensures gives_up { outcome_of_run self.old.run ≡ None → self.old.lost ≡ false → self.new.lost ≡ true → GivesUp self.old self.new }
+        ensures lacks { self.old.lost ≡ false → self.new.lost ≡ true → MayLackReply None leg self.old.run }
         ensures part { self.new.lost ≡ false → Tells leg now self.old self.new }
     {
         let mut leg = leg;
@@ -206,6 +213,10 @@ impl<'s> Conn<'s> {
             → IfOk result (λ text. HearsPiece leg.old.reply (undrained self.old.run) closes now text leg.new.reply) }
         ensures tick { leg.old.ticked ≡ true → undrained self.old.run ≡ []
             → IfOk result (λ text. HearsTick leg.old.reply closes now text leg.new.reply) }
+        ensures none { leg.old.ticked ≡ false → undrained self.old.run ≡ [] → IfOk result (λ text. text ≡ []) }
+        ensures filled { leg.old.ticked ≡ true → undrained self.old.run ≡ []
+            → IfOk result (λ text. is_filled text ≡ true → HasBegun leg.old.reply false) }
+        ensures lacks { OnErr result (undrained self.old.run ≡ [] → (leg.old.ticked ≡ true) × LacksTick leg.old.reply) }
     {
         let piece = self.next_piece();
         let mut text = heard_text(&mut leg.reply, piece, closes, now)?;
@@ -266,6 +277,7 @@ impl<'s> Conn<'s> {
         requires { IsStamp now }
         ensures kept { Kept self.old self.new }
         ensures gives_up { self.old.lost ≡ false → self.new.lost ≡ true → GivesUp self.old self.new }
+        ensures lacks { self.old.lost ≡ false → self.new.lost ≡ true → HasBegun leg.reply false }
         ensures failed { self.new.lost ≡ false → Breaks leg cause now self.old self.new }
     {
         let closes = self.closes_by(leg.kind);

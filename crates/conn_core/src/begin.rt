@@ -61,6 +61,7 @@ impl<'s> Conn<'s> {
     ghost use Rattle.conn_core.specs.Begins.{Finds, IsLegOf, Launches, Places, ReadiesHop, Refuses, Starts};
     ghost use Rattle.conn_core.specs.Kept.{Gave, Kept, site_of};
     ghost use Rattle.conn_core.specs.Parts.{GivesUp};
+    ghost use Rattle.conn_core.specs.Ready.{waits_at};
     ghost use Rattle.reply_writer.specs.WholeRules.{IsStamp};
     ghost use Rattle.host_base.specs.SiteRules.{IsServed};
 
@@ -70,6 +71,7 @@ impl<'s> Conn<'s> {
         requires served { IsServed (site_of self.old) }
         ensures kept { Kept self.old self.new }
         ensures gives_up { self.old.lost ≡ false → self.new.lost ≡ true → GivesUp self.old self.new }
+        ensures waits { self.old.lost ≡ false → self.new.lost ≡ true → waits_at self.old.stage ≡ true }
         ensures hop { self.new.lost ≡ false → ReadiesHop self.old.stage now self.old self.new }
     {
         match self.take_stage() {

@@ -58,6 +58,8 @@ impl<'s> Conn<'s> {
     ghost use Rattle.conn_core.specs.Parts.{Drops};
     ghost use Rattle.conn_core.specs.Step.{Stepped};
     ghost use Rattle.conn_core.specs.Tells.{TellsDone, TellsEnding};
+    ghost use Rattle.conn_core.specs.Fits.{fits_conn};
+    ghost use Rattle.conn_core.specs.Kid.{kid_of};
     ghost use Rattle.conn_core.specs.Slot.{child_of, held_of, run_settled};
     ghost use Rattle.conn_core.specs.Reasons.{Stops};
     ghost use Rattle.reply_writer.specs.WholeRules.{IsStamp};
@@ -121,6 +123,27 @@ impl<'s> Conn<'s> {
     {
         if self.marks.is_live() {
             self.shut_for(why, out);
+        }
+    }
+
+    /// Whether an event that names it or the child of its run may come next.
+    pub fn fits(&self, ev: &Event) -> bool
+        ensures { result ≡ fits_conn self.now ev.now }
+    {
+        self.marks.fits(ev)
+            && match &self.run {
+                None => true,
+                Some(run) => run.fits(ev),
+            }
+    }
+
+    /// The child of its run, settled or not.
+    pub fn kid(&self) -> Option<u64>
+        ensures { result ≡ kid_of self.now }
+    {
+        match &self.run {
+            Some(run) => Some(run.number()),
+            None => None,
         }
     }
 

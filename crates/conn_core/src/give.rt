@@ -28,7 +28,7 @@ impl<'s> Conn<'s> {
     ghost use Rattle.child_core.specs.Calls.{offered};
     ghost use Rattle.child_core.specs.View.{begun};
     ghost use Rattle.conn_core.specs.Kept.{Gave, Kept, site_of};
-    ghost use Rattle.conn_core.specs.Parts.{FinishesBy, Gives, GivesHop, LetsOn, Loses, Or, Part, StartsRun, WritesPart};
+    ghost use Rattle.conn_core.specs.Parts.{FinishesBy, Gives, GivesHop, LetsOn, Loses, LosesText, Or, Part, StartsRun, WritesPart};
     ghost use Rattle.conn_core.specs.Tells.{TellsContinue};
     ghost use Rattle.conn_core.specs.Moves.{ended_run, losing};
     ghost use Rattle.conn_core.specs.Settles.{Follows, Settles, is_answered, is_over, stood};
@@ -164,7 +164,7 @@ impl<'s> Conn<'s> {
         requires may { may_write self.old.marks ≡ true }
         requires open { self.old.closing ≡ false }
         requires writing { is_answered self.old.stage ≡ false }
-        ensures gave { (n : ℕ) → Gave (Or (Part (WritesPart leg)) (Part Loses)) self.old n (O.trace out.old) self.new n (O.trace out.new) }
+        ensures gave { (n : ℕ) → Gave (Or (Part (WritesPart leg)) (Part (LosesText leg.text))) self.old n (O.trace out.old) self.new n (O.trace out.new) }
         ensures limit { O.limit out.new ≡ O.limit out.old }
     {
         let mut leg = leg;

@@ -27,29 +27,32 @@ impl<'s> Conn<'s> {
         self.handle(out);
         // each request that is answered takes bytes of the client, but one that waited for its turn and the last look
         let most = self.request.kept_len().saturating_add(1);
-        self.go_on_for(most, now, children, out);
-        self.rest();
+        if self.go_on_for(most, now, children, out) {
+            self.rest();
+        }
     }
 
-    // Round after round, so many at most.
+    // Round after round, so many at most; true where so many were made, and more may go on.
     fn go_on_for<O: Outside>(
         &mut self,
         most: usize,
         now: Option<u64>,
         children: &mut u64,
         out: &mut O,
-    )
+    ) -> bool
         requires stamp { IsStamp now }
         requires served { IsServed (site_of self.old) }
-        ensures gave { Gave (SomeRounds now) self.old children.old (O.trace out.old) self.new children.new (O.trace out.new) }
+        ensures gave { Gave (SomeRounds result now) self.old children.old (O.trace out.old) self.new children.new (O.trace out.new) }
+        ensures rests { result ≡ false → TellsMore self.new false }
         ensures limit { O.limit out.new ≡ O.limit out.old }
     {
         for _turn in 0..=most {
             if !self.may_go_on() {
-                return;
+                return false;
             }
             self.go_on(now, children, out);
         }
+        true
     }
 
     // Nothing goes on any more.

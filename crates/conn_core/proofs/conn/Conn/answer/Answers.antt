@@ -18,7 +18,7 @@ returns-else-not-self-clause-gave g c n =
     gave_then (gave_part (gave_turned c.look.ensures.turned)) (gave_then (c.let_continue.ensures.gave n)
     (gave_as (λ moves d. record { ending = false; tells = goes; by = the_other d })
     (gave_ready_lost c.ready_answer.ensures.kept (c.ready_answer.ensures.gives_up (ending_found goes) c.if-not-self.false)
-    (λ leg at ended. c.ready_answer.ensures.lacks leg at ended (ending_found goes) c.if-not-self.false))))
+    (λ leg at ended. c.ready_answer.ensures.lacks leg at ended (ending_found goes) c.if-not-self.false) (c.ready_answer.ensures.may (ending_found goes) c.if-not-self.false))))
 
 pub returns-then-is_ending-clause-gave : goal.returns-then-is_ending-clause-gave
 returns-then-is_ending-clause-gave g c n =

@@ -84,5 +84,5 @@ returns-in-Err c =
     record {
       turned = looked {A = ReadsOn} c.args.self.now c.look.new.self c.lose.ensures.kept.site c.lose.ensures.kept.marks c.lose.ensures.kept.peer_is c.lose.ensures.kept.child c.lose.ensures.kept.lost
           c.lose.ensures.kept.front c.in-Err.ensures.limits (λ l. absurd (false≢true (sym l ∙ lost)))
-          (λ n. lost_at_look n c.is_ending.result c.is_ending.ensures.tells c.if-is_ending.false unread (lost_looking c.lose.ensures.value c.in-Err.ensures.limits));
+          (λ n. lost_at_look n c.is_ending.result c.is_ending.ensures.tells c.if-is_ending.false unread (lost_looking c.lose.ensures.value c.in-Err.ensures.limits) c.in-Err.ensures.memory);
     }

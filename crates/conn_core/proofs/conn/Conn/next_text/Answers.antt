@@ -1,7 +1,8 @@
-use Rattle.std.proofs.Common.{ℕ, List, length, ◌==◌, ap, subst, ◌∙◌}
+use Rattle.std.proofs.Common.{◌≡◌, ℕ, true, false, List, length, ◌==◌, ap, subst, ◌∙◌}
 use Rattle.std.proofs.lemmas.Bool.{false≢true}
 use Rattle.exchange_reply.specs.declared.reply.LegReply.{LegReply}
-use Rattle.conn_core.specs.Ready.{HearsTick}
+use Rattle.trace_child.specs.Words.{is_filled}
+use Rattle.conn_core.specs.Ready.{HasBegun, HearsTick}
 use Rattle.conn_core.proofs.conn.Conn.next_text.Goals as goal
 
 pub returns-then-is_empty-clause-tick : goal.returns-then-is_empty-clause-tick
@@ -12,3 +13,7 @@ returns-then-is_empty-clause-tick c came none =
 pub returns-clause-tick : goal.returns-clause-tick
 returns-clause-tick c came none =
     absurd (false≢true (c.if-is_empty.ensures ∙ ap (λ (text : List ℕ). length text == 0) (c.in_ok-text.ensures.none (c.next_piece-piece.ensures.piece ∙ none)).1))
+
+pub returns-then-is_empty-clause-filled : goal.returns-then-is_empty-clause-filled
+returns-then-is_empty-clause-filled c came none =
+    subst (λ (r : LegReply). is_filled c.in_ok-more.more ≡ true → HasBegun r false) (c.in_ok-text.ensures.none (c.next_piece-piece.ensures.piece ∙ none)).0 c.in_ok-more.ensures.filled

@@ -1,4 +1,4 @@
-use Rattle.std.proofs.Common.{true, false, refl}
+use Rattle.std.proofs.Common.{true, false, refl, sym}
 use Rattle.conn_core.proofs.ReadyLaws.{fails_with, fails_without}
 use Rattle.conn_core.proofs.conn.Conn.ready_failure.Goals as goal
 
@@ -29,3 +29,6 @@ returns-in-Ok-None-clause-failed c lost = record {
       (c.in-Ok-None.ensures.fails asked told ticked stood k);
   by = refl;
 }
+
+pub returns-clause-lacks : goal.returns-clause-lacks
+returns-clause-lacks c found lost asked told ticked stood k = sym (c.in-Err.ensures.memory asked told ticked stood k)

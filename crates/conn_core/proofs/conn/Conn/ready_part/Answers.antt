@@ -16,4 +16,6 @@ returns-in-Ok-clause-part c lost = record {
       ∙ ap (λ (leg : Leg). record c.args.self.now { run = drained_run c.args.self.now.run; stage = Running (record leg { text = c.in-Ok.text }) }) c.in-Ok.ensures.leg);
   piece = c.in-Ok.ensures.piece;
   tick = c.in-Ok.ensures.tick;
+  none = c.in-Ok.ensures.none;
+  filled = c.in-Ok.ensures.filled;
 }
