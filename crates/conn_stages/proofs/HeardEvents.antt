@@ -108,7 +108,7 @@ module _ (old : Conn) (L : List Item) (e : Exchange) (legs : List StartedLeg) (n
       other (inr differs) = differs
       other (inl mine) =
           let parts = and_parts (not (shut L d) && upgraded L d) (client_wanted L d) fits in
-          absurd (false≢true (sym rest.http ∙ (rest.marks.upgraded ∙ (ap (λ (k : ℕ). upgraded L k) (sym (mine_is old L e legs next rest found rested d mine)) ∙ (and_parts (not (shut L d)) (upgraded L d) parts.0).1))))
+          absurd (false≢true (sym rest.inward.http ∙ (rest.marks.upgraded ∙ (ap (λ (k : ℕ). upgraded L k) (sym (mine_is old L e legs next rest found rested d mine)) ∙ (and_parts (not (shut L d)) (upgraded L d) parts.0).1))))
 
   pub event_well : (ev : Event) → FitsIn ev → (mid : Conn) → mid.lost ≡ false → Owns ev mid → Well ev mid
   event_well (Accepted peer) fits mid kept own = accepted_well peer fits mid own

@@ -89,7 +89,7 @@ module _ (old : Conn) (L : List Item) (e : Exchange) (legs : List Started) (next
       subst (λ (s : Stage). StageIs (site_of old) (number_of old) (pushed e (In ev)) legs old.continued false (old.closing || old.closes) (more_after old L e legs next ev rest fits rested old.run) s)
       (noted_still (In ev) refl old.stage)
       (stage_kept old L e legs next ev rest fits rested false
-      (passes old L e legs next ev rest fits rested false (λ none. refl) (λ seen. absurd (false≢true seen)) (λ some. rested.let_on live)
+      (passes old L e legs next ev rest fits rested false (λ none. refl) (λ seen. absurd (false≢true seen)) (λ some. rested.let_on)
       (λ ended. absurd (asked_unended old L e legs next rest asked ended))))
 
   pub limits_are : limits_of request ≡ (site_of old).limits

@@ -164,7 +164,7 @@ module _ (old : Conn) (L : List Item) (e : Exchange) (legs : List StartedLeg) (n
     lost_bytes mid same answered run = record {
       lost = lost_by old mid (pushed e (In ev)) legs (noted_by (In ev) old.stage) same (answered ∙ sym (noted_answered (In ev) old.stage))
           (loses_stage old L e legs next ev rest fits rested true (λ v. same_outcome (number_of old == number_of old) (last_hop legs) v) false
-          (passes old L e legs next ev rest fits rested false (λ none. refl) (λ seen. absurd (false≢true seen)) (λ some. rested.let_on ask.live)
+          (passes old L e legs next ev rest fits rested false (λ none. refl) (λ seen. absurd (false≢true seen)) (λ some. rested.let_on)
           (λ ended_it. absurd (asked_unended old L e legs next rest ask.wanted ended_it))));
       found = true;
       run = run ∙ run_is old.run;

@@ -38,7 +38,7 @@ offers_are_known conn e hop request front found open_yet heard at =
     whole_is zero = sym taken_is
     whole_is (suc hop) = sym (ap (λ (b : Bool). b || is_taken conn.request) (lt-ltb 0 (suc hop) (omega arith)))
 
-waits_same : (hop hop' : ℕ) (a b : Request) → At.Unstarted hop a ≡ At.Unstarted hop' b → (hop ≡ hop') × (a ≡ b)
+pub waits_same : (hop hop' : ℕ) (a b : Request) → At.Unstarted hop a ≡ At.Unstarted hop' b → (hop ≡ hop') × (a ≡ b)
 waits_same hop hop' a b is = (cc, cc)
 
 pub looks_are_heard : LooksAreHeard

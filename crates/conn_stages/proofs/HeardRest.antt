@@ -1,5 +1,5 @@
 -- What is known of a connection between two steps.
-use Rattle.std.proofs.Common.{◌≡◌, ℕ, Bool, true, false, ◌&&◌, ◌||◌, not, List, [], ◌∷◌, ◌++◌, Option, Some, None, is_some, option_map, refl, sym, ap, ◌∙◌, subst}
+use Rattle.std.proofs.Common.{◌≡◌, ◌≤◌, ℕ, Bool, true, false, ◌&&◌, ◌||◌, not, List, [], ◌∷◌, ◌++◌, Option, Some, None, is_some, option_map, refl, sym, ap, ◌∙◌, subst}
 use Rattle.std.specs.List.{list_any}
 use Rattle.std.proofs.lemmas.Bool.{false≢true}
 use Rattle.std.proofs.lemmas.List.Folds.{list_any-append}
@@ -7,7 +7,10 @@ use Rattle.host_base.specs.declared.limits.Limits.{Limits}
 use Rattle.host_trace.specs.declared.items.Item.{Item}
 use Rattle.host_trace.specs.Kinds.{is_client_eof}
 use Rattle.host_trace.specs.Projections.{client_wanted, shut}
-use Rattle.request_reader.specs.Request.{read_request}
+use Rattle.head_reader.specs.declared.step.HeadStep.TheVariants as Step
+use Rattle.request_reader.specs.Request.{is_begun, read_request}
+use Rattle.request_reader.proofs.ReadingLaws.{reading_at}
+use Rattle.request_reader.proofs.RequestLaws.{begun_at}
 use Rattle.trace_child.specs.Decided.{outcome_of}
 use Rattle.trace_child.specs.Words.{is_filled}
 use Rattle.child_core.specs.declared.ending.Outcome.{Outcome}
@@ -18,7 +21,7 @@ use Rattle.trace_model.specs.Demands.{client_ended}
 use Rattle.trace_model.specs.Exchange.{Exchange, all_of, reading, request_bytes}
 use Rattle.trace_model.specs.Exchanges.{has_ended}
 use Rattle.trace_model.specs.Legs.{Leg as Started, run_of}
-use Rattle.trace_model.specs.Readings.{is_whole}
+use Rattle.trace_model.specs.Readings.{is_due, is_whole}
 use Rattle.trace_model.specs.Standing.{stands_whole}
 use Rattle.trace_model.proofs.ExchangeLaws.{all_of-current}
 use Rattle.conn_laws.specs.Form.{SaysDemands}
@@ -74,6 +77,10 @@ taken_whole i bytes taken k is = whole_by i bytes taken i.manner i.whole is k.st
 pub taken_is_whole : (i : Incoming) (bytes : List ℕ) (taken : ℕ) → Knows i bytes taken → (is_looked_at i || is_taken i) ≡ true → is_taken i ≡ is_whole (reading_of i bytes)
 taken_is_whole i bytes taken k looked = knows_whole i bytes taken k looked
 
+-- where 100 Continue is due a request has begun
+pub due_begun : (limits : Limits) (bytes : List ℕ) → 2 ≤ limits.head → is_due (read_request limits bytes) ≡ true → is_begun bytes ≡ true
+due_begun limits bytes two due = sym (begun_at limits bytes two (λ more. false≢true (sym (ap is_due (reading_at limits bytes Step.More more)) ∙ due)))
+
 -- ---- its children
 
 module _ (old : Conn) (L : List Item) (e : Exchange) (legs : List Started) (next : ℕ) (rest : AtRest old L e legs next) where
@@ -120,7 +127,7 @@ module _ (old : Conn) (L : List Item) (e : Exchange) (legs : List Started) (next
   -- its client was asked: it is live, and had not ended its input
   pub asked_live : client_wanted L (number_of old) ≡ true → shut L (number_of old) ≡ false → is_live (marks_of old) ≡ true
   asked_live wanted unshut =
-      ap (λ (b : Bool). b && not (marks_of old).shut) (rest.asked (says.asked ∙ wanted)).0 ∙ ap (λ (b : Bool). not b) (says.shut_then ∙ unshut)
+      ap (λ (b : Bool). b && not (marks_of old).shut) (rest.inward.asked (says.asked ∙ wanted)).0 ∙ ap (λ (b : Bool). not b) (says.shut_then ∙ unshut)
 
   pub asked_unended : client_wanted L (number_of old) ≡ true → client_ended (number_of old) e.items ≡ true → ⊥
   asked_unended wanted ended =
@@ -128,7 +135,7 @@ module _ (old : Conn) (L : List Item) (e : Exchange) (legs : List Started) (next
       ap (λ (l : List Item). client_ended (number_of old) l) (sym same_list)
       ∙ (list_any-append (is_client_eof (number_of old)) e.before e.items
       ∙ (ap (λ (b : Bool). list_any (is_client_eof (number_of old)) e.before || b) ended ∙ or_true (list_any (is_client_eof (number_of old)) e.before))) in
-      absurd (false≢true (sym (rest.asked (says.asked ∙ wanted)).1 ∙ (says.ended ∙ all)))
+      absurd (false≢true (sym (rest.inward.asked (says.asked ∙ wanted)).1 ∙ (says.ended ∙ all)))
     where
       or_true : (b : Bool) → (b || true) ≡ true
       or_true true = refl

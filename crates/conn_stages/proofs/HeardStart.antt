@@ -1,17 +1,19 @@
 -- A connection before it heard anything is at rest.
-use Rattle.std.proofs.Common.{◌≡◌, ◌≤◌, ℕ, Bool, true, false, ◌||◌, [], Option, None, refl, sym, ap, ◌∙◌, subst}
-use Rattle.std.proofs.lemmas.Bool.{false≢true}
+use Rattle.std.proofs.Common.{◌≡◌, ◌≤◌, ℕ, Bool, true, false, ◌||◌, [], Option, None, Some, refl, sym, ap, ◌∙◌, subst}
+use Rattle.std.proofs.lemmas.Bool.{and_right, false≢true, false_from_ne_true}
 use Rattle.host_base.specs.declared.launch.Peer.{Peer}
 use Rattle.child_core.specs.View.{View}
 use Rattle.conn_marks.specs.Knows.{Knows as KnowsMarks}
 use Rattle.conn_marks.specs.View.{View as Marks, is_live}
 use Rattle.conn_marks.proofs.KnowsLaws.{known_first}
-use Rattle.trace_model.specs.Exchange.{first_exchange}
+use Rattle.trace_model.specs.Exchange.{first_exchange, reading}
+use Rattle.trace_model.specs.Readings.{is_due}
 use Rattle.exchange_request.specs.Knows.{is_looked_at}
 use Rattle.exchange_stage.specs.declared.stage.Stage.{Stage}
 use Rattle.exchange_stage.specs.declared.stage.Stage.TheVariants as At
 use Rattle.exchange_stage.specs.Rules.{Rests}
 use Rattle.exchange_stage.specs.StageIs.{StageIs}
+use Rattle.exchange_stage.specs.Unanswered.{is_open}
 use Rattle.exchange_stage.proofs.BeginLaws.{first_is_read}
 use Rattle.conn_children.specs.Children.{KnowsChildren}
 use Rattle.conn_children.proofs.KnowLaws.{none_started}
@@ -20,8 +22,10 @@ use Rattle.conn_front.specs.Front.{KnowsFront}
 use Rattle.conn_front.proofs.FrontLaws.{starts_known}
 use Rattle.conn_core.specs.declared.conn.Conn.{Conn}
 use Rattle.conn_core.specs.Kept.{StandsFor, front_of, is_reading, marks_of, number_of, site_of}
-use Rattle.conn_core.specs.Ready.{undrained}
+use Rattle.conn_core.specs.Ready.{outcome_of_run, undrained}
+use Rattle.conn_stages.specs.Inward.{CutIs, Inward, IsDecided, StaysRun, is_left}
 use Rattle.conn_stages.specs.HeardStages.{Rested, StartsRest}
+use Rattle.conn_stages.proofs.HeardRest.{due_begun}
 use Rattle.conn_core.specs.New.{IsNew}
 
 module _ (conn : Conn) (next : ℕ) (two : 2 ≤ (site_of conn).limits.head) (new : IsNew conn) where
@@ -31,6 +35,10 @@ module _ (conn : Conn) (next : ℕ) (two : 2 ≤ (site_of conn).limits.head) (ne
       (subst (λ (b : Bool). KnowsFront (site_of conn) (number_of conn) None b (is_reading conn.stage) (front_of conn) first_exchange) (sym new.found)
       (subst (λ (s : Stage). KnowsFront (site_of conn) (number_of conn) None false (is_reading s) (front_of conn) first_exchange) (sym new.reads)
       (starts_known (site_of conn) (number_of conn) (front_of conn) new.front)))
+
+  -- of nothing 100 Continue is not due
+  undue : is_due (reading (site_of conn) (number_of conn) first_exchange) ≡ false
+  undue = false_from_ne_true (is_due (reading (site_of conn) (number_of conn) first_exchange)) (λ due. false≢true (due_begun (site_of conn).limits [] two due))
 
   dead : is_live (marks_of conn) ≡ true → ⊥
   dead live = absurd (false≢true (sym (ap is_live new.marks) ∙ live))
@@ -55,20 +63,44 @@ module _ (conn : Conn) (next : ℕ) (two : 2 ≤ (site_of conn).limits.head) (ne
       handed = λ ready. absurd (false≢true (sym new.front.ready ∙ ready));
     };
     going = λ live. absurd (dead live);
-    let_on = λ live. absurd (dead live);
+    let_on = λ first. and_right (is_open (number_of conn) first_exchange) (is_due (reading (site_of conn) (number_of conn) first_exchange)) undue;
+  }
+
+  inward : Inward conn
+  inward = record {
+    calm = λ is. absurd (false≢true (sym new.front.idled ∙ is));
+    calm_found = λ found is. absurd (false≢true (sym new.front.idled ∙ is));
+    accepted = λ other. absurd (false≢true (sym other ∙ ap is_reading new.reads));
+    http = ap (λ (m : Marks). m.upgraded) new.marks;
+    lost_in = λ lost. absurd (false≢true (sym new.found ∙ lost));
+    decided = λ found still. subst (λ (run : Option View). IsDecided run) (sym new.run) tt;
+    left = λ found is. absurd (false≢true (sym (ap (λ (run : Option View). is_left (outcome_of_run run)) new.run) ∙ is));
+    cut_is = λ found. subst (λ (s : Stage). CutIs s (outcome_of_run conn.run) conn.cut) (sym new.reads) new.uncut;
+    held = λ shut. absurd (false≢true (sym (ap (λ (m : Marks). m.shut) new.marks) ∙ shut));
+    stays = λ found unshut ends whole. subst (λ (run : Option View). StaysRun run) (sym new.run) tt;
+    closes_is = λ is. absurd (false≢true (sym new.unclosed ∙ is));
+    room = λ found. ap (λ (m : Marks). m.no_room) new.marks;
+    asked = λ asked. absurd (false≢true (sym (ap (λ (m : Marks). m.asked) new.marks) ∙ asked));
+    within = λ found open_yet either. absurd (false≢true (sym (ap (λ (m : Marks). m.asked || m.ended) new.marks) ∙ either));
+    past = λ found open_yet unshut ended. absurd (false≢true (sym (ap (λ (m : Marks). m.ended) new.marks) ∙ ended));
   }
 
 pub starts_rest : StartsRest
-starts_rest conn next two new = record {
+starts_rest conn next two small new = record {
   two = two;
+  small = small;
   now = refl;
   front = front conn next two new;
   children = subst (λ (run : Option View). KnowsChildren (site_of conn) (number_of conn) first_exchange false next [] run) (sym new.run) (none_started (site_of conn) (number_of conn) next);
+  even = λ v run. absurd (never v (sym new.run ∙ run));
+  starts_first = λ k started. absurd (false≢true started);
   marks = subst (λ (m : Marks). KnowsMarks m []) (sym new.marks) (known_first (number_of conn));
-  http = ap (λ (m : Marks). m.upgraded) new.marks;
+  inward = inward conn next two new;
   unheard = λ other. (refl, refl);
   unended = new_unended (site_of conn) (number_of conn) first_exchange refl;
-  asked = λ asked. absurd (false≢true (sym (ap (λ (m : Marks). m.asked) new.marks) ∙ asked));
   found = λ found. rested conn next two new;
   lost = λ lost. absurd (false≢true (sym new.found ∙ lost));
 }
+  where
+    never : (v : View) → None ≡ Some v → ⊥
+    never v is = cc

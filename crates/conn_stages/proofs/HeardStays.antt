@@ -28,7 +28,7 @@ use Rattle.conn_core.specs.Slot.{run_settled}
 use Rattle.conn_stages.specs.HeardStages.{AtRest, EventsStayLost, HeardStill, RestedLost, SameAs}
 use Rattle.conn_stages.proofs.HeardLose.{lost_by}
 use Rattle.conn_stages.proofs.HeardLosses.{unkept}
-use Rattle.conn_stages.proofs.HeardStill.{is_shut, still_lost, unheard}
+use Rattle.conn_stages.proofs.HeardStill.{is_shut, kept_undecided, still_lost}
 
 ticked_answered : (s : Stage) → is_answered (ticked_stage s) ≡ is_answered s
 ticked_answered (At.Running held) = refl
@@ -186,7 +186,7 @@ module _ (old : Conn) (L : List Item) (e : Exchange) (legs : List StartedLeg) (n
     where
       go : (run : Option View) → old.run ≡ run → keeps_of run (ChildBytes k bytes) ≡ true → ⊥
       go None is kept = absurd (false≢true kept)
-      go (Some v) is kept = unheard old L e legs next rest was k bytes fits v is kept
+      go (Some v) is kept = kept_undecided old L e legs next rest k bytes fits v is (was.decided v is) kept
   room (Accepted peer) fits keeps = unkept old.run (Accepted peer) (λ v. refl) keeps
   room (ClientBytes d bytes) fits keeps = unkept old.run (ClientBytes d bytes) (λ v. refl) keeps
   room (ClientEof d) fits keeps = unkept old.run (ClientEof d) (λ v. refl) keeps

@@ -52,11 +52,11 @@ first_or p q more x old new later any = go (p x) refl any
     go true is a = ap (λ (b : Bool). b || new) (more x is)
     go false is a = right (q x) (later a)
 
-any_more : (p q : Item → Bool) → ((x : Item) → p x ≡ true → q x ≡ true) → (xs : List Item) → list_any p xs ≡ true → list_any q xs ≡ true
+pub any_more : (p q : Item → Bool) → ((x : Item) → p x ≡ true → q x ≡ true) → (xs : List Item) → list_any p xs ≡ true → list_any q xs ≡ true
 any_more p q more [] any = absurd (false≢true any)
 any_more p q more (x ∷ xs) any = first_or p q more x (list_any p xs) (list_any q xs) (any_more p q more xs) any
 
-eof_ends : (k : ℕ) (x : Item) → is_child_eof k x ≡ true → is_output_end k x ≡ true
+pub eof_ends : (k : ℕ) (x : Item) → is_child_eof k x ≡ true → is_output_end k x ≡ true
 eof_ends k x is = ap (λ (b : Bool). b || is_child_broken k x || is_release k x) is
 
 or_true : (b : Bool) → (b || true) ≡ true
@@ -76,6 +76,33 @@ kept_output kind (Some Ended.Gone) some keeps = absurd (false≢true (sym (or_ri
 kept_output kind (Some Ended.Stopped) some keeps = absurd (false≢true (sym (or_right (is_websocket kind) true keeps)))
 kept_output kind (Some Ended.Dropped) some keeps = absurd (false≢true (sym (or_right (is_websocket kind) true keeps)))
 
+module _ (old : Conn) (L : List Item) (e : Exchange) (legs : List StartedLeg) (next : ℕ) (rest : AtRest old L e legs next) where
+  -- of a run that is decided no output comes that would be kept
+  pub kept_undecided : (k : ℕ) (bytes : List ℕ) → fits_own (site_of old).limits.children L (ChildBytes k bytes) ≡ true → (v : View) → old.run ≡ Some v → is_some v.outcome ≡ true → is_kept v (ChildBytes k bytes) ≡ true → ⊥
+  kept_undecided k bytes fits v is decided kept =
+      let parts = and_parts (v.number == k) (not (drops_output v.kind (outcome_after 0 v plain (In (ChildBytes k bytes))))) kept in
+      let number : v.number ≡ k = eqb-true v.number k parts.0 in
+      let keeps : drops_output v.kind v.outcome ≡ false = not_true (drops_output v.kind v.outcome) (same_not v.outcome refl decided parts.1) in
+      let runs = (known_at old L e legs next rest (Some v) is).runs in
+      let output : is_output runs.view.outcome ≡ true = ap (λ (w : View). is_output w.outcome) (sym runs.held_as) ∙ kept_output v.kind v.outcome decided keeps in
+      let eof : list_any (is_child_eof runs.view.number) e.items ≡ true = runs.known.knows.eof output in
+      let ended_here : list_any (is_output_end k) e.items ≡ true =
+      any_more (is_child_eof k) (is_output_end k) (eof_ends k) e.items
+      (subst (λ (j : ℕ). list_any (is_child_eof j) e.items ≡ true) (ap (λ (w : View). w.number) (sym runs.held_as) ∙ number) eof) in
+      let ended_then : output_ended L k ≡ true =
+      ap (λ (l : List Item). output_ended l k) (sym (same_list old L e legs next rest))
+      ∙ (list_any-append (is_output_end k) e.before e.items
+      ∙ (ap (λ (b : Bool). list_any (is_output_end k) e.before || b) ended_here ∙ or_true (list_any (is_output_end k) e.before))) in
+      let asked = (and_parts (is_output_asked L k) (is_piece bytes) fits).0 in
+      let open_yet = (and_parts (started L k) (not (output_ended L k)) (and_parts (started L k && not (output_ended L k)) (child_wanted L k) asked).0).1 in
+      false≢true (sym (not_true (output_ended L k) open_yet) ∙ ended_then)
+    where
+      same_not : (o : Option Outcome) → v.outcome ≡ o → is_some o ≡ true → not (drops_output v.kind (outcome_after 0 v plain (In (ChildBytes k bytes)))) ≡ true → not (drops_output v.kind v.outcome) ≡ true
+      same_not None at some n = absurd (false≢true some)
+      same_not (Some outcome) at some n =
+          let after : outcome_after 0 v plain (In (ChildBytes k bytes)) ≡ Some outcome = ap (λ (o : Option Outcome). or_else o (verdict 0 v plain (In (ChildBytes k bytes)))) at in
+          ap (λ (o : Option Outcome). not (drops_output v.kind o)) (at ∙ sym after) ∙ n
+
 module _ (old : Conn) (L : List Item) (e : Exchange) (legs : List StartedLeg) (next : ℕ) (rest : AtRest old L e legs next) (was : RestedLost old e legs) where
   pub is_shut : shut L (number_of old) ≡ true
   is_shut = sym (says old L e legs next rest).shut_then ∙ was.shut
@@ -93,32 +120,6 @@ module _ (old : Conn) (L : List Item) (e : Exchange) (legs : List StartedLeg) (n
           by_outcome : (o : Option Outcome) → is_some o ≡ true → option_map read o ≡ None → ⊥
           by_outcome None some none = absurd (false≢true some)
           by_outcome (Some o) some none = absurd (cc)
-
-  -- no output comes that would be kept
-  pub unheard : (k : ℕ) (bytes : List ℕ) → fits_own (site_of old).limits.children L (ChildBytes k bytes) ≡ true → (v : View) → old.run ≡ Some v → is_kept v (ChildBytes k bytes) ≡ true → ⊥
-  unheard k bytes fits v is kept =
-      let parts = and_parts (v.number == k) (not (drops_output v.kind (outcome_after 0 v plain (In (ChildBytes k bytes))))) kept in
-      let number : v.number ≡ k = eqb-true v.number k parts.0 in
-      let keeps : drops_output v.kind v.outcome ≡ false = not_true (drops_output v.kind v.outcome) (same_not v.outcome refl (was.decided v is) parts.1) in
-      let runs = (known_at old L e legs next rest (Some v) is).runs in
-      let output : is_output runs.view.outcome ≡ true = ap (λ (w : View). is_output w.outcome) (sym runs.held_as) ∙ kept_output v.kind v.outcome (was.decided v is) keeps in
-      let eof : list_any (is_child_eof runs.view.number) e.items ≡ true = runs.known.knows.eof output in
-      let ended_here : list_any (is_output_end k) e.items ≡ true =
-      any_more (is_child_eof k) (is_output_end k) (eof_ends k) e.items
-      (subst (λ (j : ℕ). list_any (is_child_eof j) e.items ≡ true) (ap (λ (w : View). w.number) (sym runs.held_as) ∙ number) eof) in
-      let ended_then : output_ended L k ≡ true =
-      ap (λ (l : List Item). output_ended l k) (sym (same_list old L e legs next rest))
-      ∙ (list_any-append (is_output_end k) e.before e.items
-      ∙ (ap (λ (b : Bool). list_any (is_output_end k) e.before || b) ended_here ∙ or_true (list_any (is_output_end k) e.before))) in
-      let asked = (and_parts (is_output_asked L k) (is_piece bytes) fits).0 in
-      let open_yet = (and_parts (started L k) (not (output_ended L k)) (and_parts (started L k && not (output_ended L k)) (child_wanted L k) asked).0).1 in
-      absurd (false≢true (sym (not_true (output_ended L k) open_yet) ∙ ended_then))
-    where
-      same_not : (o : Option Outcome) → v.outcome ≡ o → is_some o ≡ true → not (drops_output v.kind (outcome_after 0 v plain (In (ChildBytes k bytes)))) ≡ true → not (drops_output v.kind v.outcome) ≡ true
-      same_not None at some n = absurd (false≢true some)
-      same_not (Some outcome) at some n =
-          let after : outcome_after 0 v plain (In (ChildBytes k bytes)) ≡ Some outcome = ap (λ (o : Option Outcome). or_else o (verdict 0 v plain (In (ChildBytes k bytes)))) at in
-          ap (λ (o : Option Outcome). not (drops_output v.kind o)) (at ∙ sym after) ∙ n
 
   -- ---- the stage
 

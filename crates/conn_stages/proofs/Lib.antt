@@ -24,5 +24,6 @@ pub mod HeardLoss
 pub mod HeardStill
 pub mod HeardStays
 pub mod HeardOffers
+pub mod StartWords
 pub mod HeardKeeps
 pub mod HeardStart

@@ -1,15 +1,21 @@
 -- What is known of a connection between two steps, and what an event makes of it.
-use Rattle.std.specs.Prelude.{ℕ, ◌≡◌, ◌≤◌, ◌||◌, Bool, true, false, nat_lt, List, [], Some, is_some, length}
+use Rattle.std.specs.Prelude.{ℕ, ◌≡◌, ◌≤◌, ◌<◌, ◌^◌, ◌||◌, Bool, true, false, nat_lt, List, [], Some, is_some, length}
+use Rattle.std.specs.List.{list_any}
 use Rattle.host_base.specs.declared.cause.Cause.{Cause}
 use Rattle.host_base.specs.declared.request.Request.{Request}
 use Rattle.host_trace.specs.declared.items.Event.{Event}
 use Rattle.host_trace.specs.declared.items.Item.{Item}
 use Rattle.host_trace.specs.declared.items.Item.TheVariants.{In}
+use Rattle.host_trace.specs.First.{since}
+use Rattle.host_trace.specs.Kinds.{is_start}
+use Rattle.host_trace.specs.Projections.{child_out}
 use Rattle.own_traces.specs.OwnFits.{fits_own}
+use Rattle.child_core.specs.Due.{is_at_rest}
 use Rattle.child_core.specs.View.{View}
 use Rattle.conn_marks.specs.Knows.{Knows as KnowsMarks}
-use Rattle.conn_marks.specs.View.{is_live, noted}
-use Rattle.trace_model.specs.Exchange.{Exchange, first_exchange, pushed, reading, request_bytes, up_to}
+use Rattle.conn_marks.specs.View.{has_room, is_live, noted}
+use Rattle.host_trace.specs.Projections.{shut_for_memory}
+use Rattle.trace_model.specs.Exchange.{Exchange, all_of, first_exchange, pushed, reading, request_bytes, up_to}
 use Rattle.trace_model.specs.Exchanges.{current, has_ended}
 use Rattle.trace_model.specs.Legs.{Leg as Started, offered_at}
 use Rattle.trace_model.specs.Readings.{is_bare}
@@ -27,6 +33,7 @@ use Rattle.conn_core.specs.New.{IsNew}
 use Rattle.conn_core.specs.Kept.{StandsFor, is_reading, marks_of, number_of, site_of}
 use Rattle.conn_core.specs.Ready.{Looked, undrained}
 use Rattle.conn_core.specs.Reasons.{ends_with, is_done_with}
+use Rattle.conn_stages.specs.Inward.{Inward}
 use Rattle.conn_stages.specs.Staged.{Lost, Staged}
 
 -- ---- its request
@@ -39,41 +46,50 @@ pub record HasHeard (conn : Conn) (e : Exchange) : Type 0 where
   pub looked : is_reading conn.stage ≡ false → (is_looked_at conn.request || is_taken conn.request) ≡ true
   pub handed : is_ready conn.request ≡ true → Knows conn.request (request_bytes (number_of conn) e) (length (body_heard (site_of conn) (number_of conn) e))
 
+-- ---- its children
+
+-- the output of each child that was started for it came behind its Start
+abbrev pub StartsComeFirst : Exchange → Type 0
+StartsComeFirst e = (k : ℕ) → list_any (is_start k) e.items ≡ true → child_out (since (is_start k) e.items) k ≡ child_out e.items k
+
 -- ---- between two steps
 
--- At this exchange nothing is due. While the connection is live nothing ends it, and 100 Continue doesn't wait to be
--- written.
+-- At this exchange nothing is due, and 100 Continue doesn't wait to be written. While the connection is live nothing ends
+-- it.
 pub record Rested (conn : Conn) (e : Exchange) (legs : List Started) : Type 0 where
   pub staged : Staged conn e legs
   pub rests : Rests (site_of conn) (number_of conn) e legs (is_looked_at conn.request) staged.more conn.stage
   pub heard : HasHeard conn e
   pub going : is_live (marks_of conn) ≡ true → ends_with conn (is_done_with conn (request_bytes (number_of conn) e)) ≡ false
-  pub let_on : is_live (marks_of conn) ≡ true → conn.continued ≡ false → is_awaited (site_of conn) (number_of conn) e ≡ false
+  pub let_on : conn.continued ≡ false → is_awaited (site_of conn) (number_of conn) e ≡ false
 
--- .. where memory was wanting it was shut, and its run is decided
+-- .. where memory was wanting it was shut for that, and its run is decided
 pub record RestedLost (conn : Conn) (e : Exchange) (legs : List Started) : Type 0 where
   pub lost : Lost conn e legs
   pub shut : (marks_of conn).shut ≡ true
   pub decided : (v : View) → conn.run ≡ Some v → is_some v.outcome ≡ true
+  pub for_memory : shut_for_memory (all_of e) (number_of conn) ≡ true
 
 -- The items of the connection, which speaks HTTP, are these, and this exchange goes on, for which these legs were started.
--- Only a client that had not ended its input was asked, of a connection that was accepted; of another nothing was heard.
+-- Nothing is due for its child. Of a connection that was not accepted nothing was heard.
 pub record AtRest (conn : Conn) (L : List Item) (e : Exchange) (legs : List Started) (next : ℕ) : Type 0 where
   pub two : 2 ≤ (site_of conn).limits.head
+  pub small : (site_of conn).limits.output < 2 ^ 64
   pub now : e ≡ current (site_of conn) (number_of conn) L
   pub front : StandsFor conn e
   pub children : KnowsChildren (site_of conn) (number_of conn) e false next legs conn.run
+  pub even : (v : View) → conn.run ≡ Some v → is_at_rest (has_room (marks_of conn)) v ≡ true
+  pub starts_first : StartsComeFirst e
   pub marks : KnowsMarks (marks_of conn) L
-  pub http : (marks_of conn).upgraded ≡ false
+  pub inward : Inward conn
   pub unheard : (marks_of conn).accepted ≡ false → (request_bytes (number_of conn) e ≡ []) × (e.closed ≡ false)
   pub unended : has_ended (site_of conn) (number_of conn) e ≡ false
-  pub asked : (marks_of conn).asked ≡ true → ((marks_of conn).accepted ≡ true) × ((marks_of conn).ended ≡ false)
   pub found : conn.lost ≡ false → Rested conn e legs
   pub lost : conn.lost ≡ true → RestedLost conn e legs
 
 -- Before it heard anything a connection is at rest.
 abbrev pub StartsRest : Type 0
-StartsRest = (conn : Conn) (next : ℕ) → 2 ≤ (site_of conn).limits.head → IsNew conn → AtRest conn [] first_exchange [] next
+StartsRest = (conn : Conn) (next : ℕ) → 2 ≤ (site_of conn).limits.head → (site_of conn).limits.output < 2 ^ 64 → IsNew conn → AtRest conn [] first_exchange [] next
 
 -- ---- an event
 

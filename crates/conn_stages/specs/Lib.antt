@@ -1,3 +1,4 @@
 pub mod Staged
+pub mod Inward
 pub mod Laws
 pub mod HeardStages

@@ -12,19 +12,21 @@ use Rattle.trace_model.specs.Exchanges.{ended_after, ended_by, following, has_en
 use Rattle.trace_model.specs.Launches.{is_right_start}
 use Rattle.trace_model.specs.Replies.{is_silent_once_closed}
 use Rattle.trace_model.specs.Steps.{each_act_from}
+use Rattle.trace_model.specs.Talks.{is_right_upgrade}
 use Rattle.exchange_stage.proofs.RestLaws.{silent_by_open}
 use Rattle.conn_children.proofs.OverLaws.{new_unended}
 use Rattle.conn_front.specs.Moves.{AreInStep, Move, acts_of, continues, gives, moved, settles}
-use Rattle.conn_steps.specs.Standing.{AreRight}
+use Rattle.conn_steps.specs.Laws.{may_be_given_at}
+use Rattle.conn_steps.specs.Standing.{AreRight, IsRight}
 
 -- where it has ended, the one that follows
 abbrev pub next : Site → ℕ → Exchange → Exchange
 next site c e = next_by site c e (has_ended site c e)
 
-next_on : (site : Site) (c : ℕ) (e : Exchange) → has_ended site c e ≡ false → next site c e ≡ e
+pub next_on : (site : Site) (c : ℕ) (e : Exchange) → has_ended site c e ≡ false → next site c e ≡ e
 next_on site c e on = ap (λ (b : Bool). next_by site c e b) on
 
-next_over : (site : Site) (c : ℕ) (e : Exchange) → has_ended site c e ≡ true → next site c e ≡ next site c (following site c e)
+pub next_over : (site : Site) (c : ℕ) (e : Exchange) → has_ended site c e ≡ true → next site c e ≡ next site c (following site c e)
 next_over site c e over = ap (λ (b : Bool). next_by site c e b) over ∙ sym (next_on site c (following site c e) (new_unended site c (following site c e) refl))
 
 -- a rule that each act keeps where it is given holds of each act
@@ -45,26 +47,32 @@ module _ (site : Site) (c : ℕ) (rule : Exchange → Act → Bool) where
   each_kept e (settles ending ∷ moves) a k =
       ap (λ (d : Exchange). each_act_from site c rule d (acts_of moves)) (next_over site c e a.0.over) ∙ each_kept (following site c e) moves a.1 k
 
-launch_right : (site : Site) (c : ℕ) (e : Exchange) (moves : List Move) → AreRight site c e moves → Keeps site c (is_right_start site c) e moves
-launch_right site c e [] r = tt
-launch_right site c e (gives act ∷ moves) r = (r.0, launch_right site c (pushed e (Out act)) moves r.2)
-launch_right site c e (continues d ∷ moves) r = (refl, launch_right site c (pushed e (Out (Write d continue_text))) moves r.1)
-launch_right site c e (settles ending ∷ moves) r = launch_right site c (following site c e) moves r.1
+-- .. so does each that is right where it is given, and that 100 Continue keeps
+module _ (site : Site) (c : ℕ) (rule : Exchange → Act → Bool) (kept : (e : Exchange) (act : Act) → IsRight site c e act → rule e act ≡ true)
+    (let_on : (e : Exchange) (d : ℕ) → begins_in_turn site c e (Write d continue_text) ≡ true → rule e (Write d continue_text) ≡ true) where
+  keeps_right : (e : Exchange) (moves : List Move) → AreRight site c e moves → Keeps site c rule e moves
+  keeps_right e [] r = tt
+  keeps_right e (gives act ∷ moves) r = (kept e act r.0, keeps_right (pushed e (Out act)) moves r.1)
+  keeps_right e (continues d ∷ moves) r = (let_on e d r.0, keeps_right (pushed e (Out (Write d continue_text))) moves r.1)
+  keeps_right e (settles ending ∷ moves) r = keeps_right (following site c e) moves r.1
 
-turn_right : (site : Site) (c : ℕ) (e : Exchange) (moves : List Move) → AreRight site c e moves → Keeps site c (begins_in_turn site c) e moves
-turn_right site c e [] r = tt
-turn_right site c e (gives act ∷ moves) r = (r.1, turn_right site c (pushed e (Out act)) moves r.2)
-turn_right site c e (continues d ∷ moves) r = (r.0, turn_right site c (pushed e (Out (Write d continue_text))) moves r.1)
-turn_right site c e (settles ending ∷ moves) r = turn_right site c (following site c e) moves r.1
+  each_right : (e : Exchange) (moves : List Move) → AreInStep site c e moves → AreRight site c e moves → each_act_from site c rule (next site c e) (acts_of moves) ≡ true
+  each_right e moves a r = each_kept site c rule e moves a (keeps_right e moves r)
 
--- Each Start is right, and each answer begins in its turn.
-pub launches_right : (site : Site) (c : ℕ) (e : Exchange) (moves : List Move) → AreInStep site c e moves → AreRight site c e moves
-    → each_act_from site c (is_right_start site c) (next site c e) (acts_of moves) ≡ true
-launches_right site c e moves a r = each_kept site c (is_right_start site c) e moves a (launch_right site c e moves r)
+-- Each act is right.
+pub record EachRight (site : Site) (c : ℕ) (d : Exchange) (acts : List Act) : Type 0 where
+  pub launches : each_act_from site c (is_right_start site c) d acts ≡ true
+  pub in_turn : each_act_from site c (begins_in_turn site c) d acts ≡ true
+  pub upgrades : each_act_from site c (is_right_upgrade site c) d acts ≡ true
+  pub givings : each_act_from site c may_be_given_at d acts ≡ true
 
-pub turns_right : (site : Site) (c : ℕ) (e : Exchange) (moves : List Move) → AreInStep site c e moves → AreRight site c e moves
-    → each_act_from site c (begins_in_turn site c) (next site c e) (acts_of moves) ≡ true
-turns_right site c e moves a r = each_kept site c (begins_in_turn site c) e moves a (turn_right site c e moves r)
+pub acts_right : (site : Site) (c : ℕ) (e : Exchange) (moves : List Move) → AreInStep site c e moves → AreRight site c e moves → EachRight site c (next site c e) (acts_of moves)
+acts_right site c e moves a r = record {
+  launches = each_right site c (is_right_start site c) (λ d act is. is.start) (λ d k is. refl) e moves a r;
+  in_turn = each_right site c (begins_in_turn site c) (λ d act is. is.in_turn) (λ d k is. is) e moves a r;
+  upgrades = each_right site c (is_right_upgrade site c) (λ d act is. is.upgrade) (λ d k is. refl) e moves a r;
+  givings = each_right site c may_be_given_at (λ d act is. is.may) (λ d k is. refl) e moves a r;
+}
 
 -- .. and of those that ended none follows an answer that closes.
 pub ended_silent : (site : Site) (c : ℕ) (e : Exchange) (moves : List Move) → AreInStep site c e moves → AreRight site c e moves → has_ended site c (moved site c e moves) ≡ false
@@ -72,7 +80,7 @@ pub ended_silent : (site : Site) (c : ℕ) (e : Exchange) (moves : List Move) �
 ended_silent site c e [] a r on = ap (λ (b : Bool). list_all (is_silent_once_closed c) (ended_by e b ++ [])) on
 ended_silent site c e (gives act ∷ moves) a r on =
     ap (λ (b : Bool). list_all (is_silent_once_closed c) (ended_by e b ++ ended_after site c (next_by site c e b) (Out act ∷ map Out (acts_of moves)))) a.0
-    ∙ ended_silent site c (pushed e (Out act)) moves a.1 r.2 on
+    ∙ ended_silent site c (pushed e (Out act)) moves a.1 r.1 on
 ended_silent site c e (continues d ∷ moves) a r on =
     ap (λ (b : Bool). list_all (is_silent_once_closed c) (ended_by e b ++ ended_after site c (next_by site c e b) (Out (Write d continue_text) ∷ map Out (acts_of moves)))) a.0
     ∙ ended_silent site c (pushed e (Out (Write d continue_text))) moves a.2 r.1 on

@@ -1,6 +1,6 @@
 -- The connection is shut.
-use Rattle.std.proofs.Common.{◌≡◌, ◌≤◌, ℕ, ◌==◌, Bool, true, false, ◌&&◌, ◌||◌, not, List, [], ◌∷◌, ◌++◌, Option, Some, None, is_some, refl, sym, ap, ◌∙◌, subst}
-use Rattle.std.proofs.lemmas.Bool.{and_from, and_parts, and_right, eq-eqb, false≢true, not-true, or_left, true_from_ne_false}
+use Rattle.std.proofs.Common.{◌≡◌, ◌≤◌, ℕ, true, false, ◌&&◌, ◌||◌, not, List, [], ◌∷◌, Option, Some, None, refl, sym, ap, ◌∙◌, subst, ◌==◌, inr}
+use Rattle.std.proofs.lemmas.Bool.{and_from, and_parts, false≢true, true_from_ne_false, eq-eqb, or_left}
 use Rattle.host_trace.specs.declared.items.Act.{Act}
 use Rattle.host_trace.specs.declared.items.Act.TheVariants.{Shut}
 use Rattle.host_trace.specs.declared.items.Event.{Event}
@@ -8,76 +8,33 @@ use Rattle.host_trace.specs.declared.items.Item.{Item}
 use Rattle.host_trace.specs.declared.items.Item.TheVariants.{Out}
 use Rattle.host_trace.specs.declared.items.Why.{Why}
 use Rattle.host_trace.specs.Kinds.{is_no_memory}
-use Rattle.trace_child.specs.Words.{is_filled}
-use Rattle.child_core.specs.declared.ending.Ending.TheVariants.{Dropped}
-use Rattle.child_core.specs.declared.ending.Outcome.{Outcome}
-use Rattle.child_core.specs.declared.ending.Outcome.TheVariants as Ended
-use Rattle.child_core.specs.Calls.{ended}
 use Rattle.child_core.specs.View.{View}
 use Rattle.trace_model.specs.Exchange.{Exchange, pushed, request_bytes}
-use Rattle.trace_model.specs.Exchanges.{has_ended}
-use Rattle.trace_model.specs.Legs.{Leg as Started}
-use Rattle.exchange_stage.specs.declared.stage.Leg.{Leg}
-use Rattle.exchange_stage.specs.declared.stage.Stage.{Stage}
-use Rattle.exchange_stage.specs.declared.stage.Stage.TheVariants as At
-use Rattle.exchange_stage.specs.Items.{ActsKeep, is_calm, is_nothing}
 use Rattle.exchange_stage.proofs.UnansweredLaws.{awaited-quiet}
-use Rattle.exchange_stage.specs.StageIs.{LostIs}
-use Rattle.exchange_stage.proofs.PassLaws.{quiet_acts_keep}
-use Rattle.conn_marks.specs.View.{has_room, is_live, may_write, noted}
+use Rattle.conn_marks.specs.View.{has_room, is_live, noted}
 use Rattle.conn_marks.specs.Form.{are_given}
-use Rattle.conn_children.specs.Children.{HeldAs, KnowsChildren}
-use Rattle.conn_children.specs.Step.{Turn, begun, served, waiting}
-use Rattle.conn_children.specs.Moves.{Deals}
-use Rattle.conn_children.proofs.MoveLaws.{acts_move, shuts_move}
-use Rattle.conn_children.proofs.SpentLaws.{dropped_twice}
+use Rattle.conn_children.specs.Step.{Turn}
 use Rattle.conn_front.specs.Moves.{Move, acts_of, gives}
 use Rattle.conn_core.specs.declared.conn.Conn.{Conn}
 use Rattle.conn_core.specs.Kept.{marks_of, number_of, site_of}
-use Rattle.conn_core.specs.Moves.{ended_run, given_up_by}
+use Rattle.conn_core.specs.Moves.{given_up_by}
 use Rattle.conn_core.specs.Ready.{outcome_of_run}
 use Rattle.conn_core.specs.Reasons.{is_done_with, why_of}
-use Rattle.conn_core.specs.Settles.{is_answered, is_over}
+use Rattle.conn_core.specs.Settles.{is_answered}
 use Rattle.conn_core.specs.Slot.{run_settled}
 use Rattle.conn_stages.proofs.ItemLaws.{others_staged}
 use Rattle.conn_core.specs.Parts.{Closes, Part, ShutsBy}
-use Rattle.conn_steps.specs.Standing.{CutIs, EvenAt, IsAwake, IsDecided, Leaves, Makes, QuietBy, Rest, RunQuiet, Standing, ends_at, is_early, is_left, is_running}
+use Rattle.conn_stages.specs.Inward.{CutIs, IsDecided, is_left}
+use Rattle.conn_stages.proofs.StartWords.{first_quiet}
+use Rattle.conn_steps.specs.Standing.{Leaves, Makes, Rest, Standing, ends_at}
 use Rattle.conn_core.specs.Tells.{goes_at}
 use Rattle.conn_steps.proofs.EndWords.{goes, going}
-use Rattle.conn_steps.proofs.HandleLaws.{lost_decided}
-use Rattle.conn_steps.proofs.PushWords.{bodies_quiet}
-use Rattle.conn_steps.proofs.ServedLaws.{quiet_goes_on, some_last}
-use Rattle.conn_steps.proofs.StageWords.{known_now, staged_run}
+use Rattle.conn_steps.proofs.BodyWords.{heard_push}
+use Rattle.conn_steps.proofs.StageWords.{staged_run}
 use Rattle.conn_steps.proofs.ThenLaws.{leaves_made, leaves_none}
-use Rattle.conn_steps.proofs.WhyWords.{going_none, no_memory_is, none_going, some_why, why_same}
-
--- where it is shut for want of memory the run was given up before
-ended_again : (early : Bool) (held view : View) → early ≡ true → HeldAs early held view → ended held Dropped ≡ held
-ended_again false held view e h = absurd (false≢true e)
-ended_again true held view e h = ap (λ (v : View). ended v Dropped) h ∙ (dropped_twice view ∙ sym h)
-
-pub some_answered : (L : List Item) (ev : Event) (acts : List Act) (turn : Turn) (e : Exchange) (conn : Conn) (n : ℕ) (s : Standing L ev acts turn n e conn) → is_over conn ≡ false → conn.stage ≡ At.Answered
-    → is_filled s.legs ≡ true
-some_answered L ev acts turn e conn n s unover at = go conn.run refl
-  where
-    go : (run : Option View) → conn.run ≡ run → is_filled s.legs ≡ true
-    go None is = absurd (false≢true (sym unover ∙ (ap (λ (t : Stage). is_answered t && run_settled conn.run) at ∙ ap run_settled is)))
-    go (Some v) is =
-        let knows : KnowsChildren (site_of conn) (number_of conn) e (is_early conn) n s.legs (Some v) =
-        subst (λ (r : Option View). KnowsChildren (site_of conn) (number_of conn) e (is_early conn) n s.legs r) is (known_now L ev acts turn n e conn s) in
-        some_last knows.runs.older knows.runs.leg s.legs knows.runs.are
-
-pub calm_quiet : (conn : Conn) (e : Exchange) (legs : List Started) (t : Stage) → (t ≡ At.Answered → is_filled legs ≡ true) → QuietBy conn e t → is_calm legs t ≡ true
-calm_quiet conn e legs At.Answered some q = some refl
-calm_quiet conn e legs (At.Running leg) some q = ap is_nothing q.0
-calm_quiet conn e legs At.Reading some q = refl
-calm_quiet conn e legs (At.Rejected cause bare) some q = absurd q
-calm_quiet conn e legs (At.Interrupted cause) some q = absurd q
-calm_quiet conn e legs (At.Refused cause) some q = refl
-calm_quiet conn e legs (At.Unstarted hop request) some q = refl
-calm_quiet conn e legs (At.Starting leg launch body whole) some q = absurd q
-calm_quiet conn e legs (At.Finishing text closes) some q = absurd q
-calm_quiet conn e legs At.Silent some q = refl
+use Rattle.conn_steps.proofs.WhyWords.{going_none, none_going, some_why, why_same}
+use Rattle.conn_steps.proofs.QuietWords.{calm_quiet}
+use Rattle.conn_steps.proofs.ShutWords.{dead, deals, decided_now, ended_not, even_decided, lost_kept, quiet_at, run_same, shut_now, some_answered}
 
 -- what is known behind it: it was shut where memory was wanting, and where it is live nothing ends it
 pub record Closed (turn : Turn) (e : Exchange) (conn : Conn) : Type 0 where
@@ -95,181 +52,66 @@ module _ (L : List Item) (ev : Event) (acts : List Act) (turn : Turn) (e : Excha
   abbrev mid : Conn
   mid = record old { marks = noted (marks_of old) (Out act); run = given_up_by (is_no_memory why) old.run }
 
-  ended_not : has_ended (site_of old) (number_of old) e ≡ false
-  ended_not = quiet_goes_on L ev acts turn e old n s rest.1
+  same : given_up_by (is_no_memory why) old.run ≡ old.run
+  same = run_same L ev acts turn e old n s two rest live why memory ends
 
-  unshut : (marks_of old).shut ≡ false
-  unshut = not-true (marks_of old).shut (and_parts (marks_of old).accepted (not (marks_of old).shut) live).1
+  decided_then : IsDecided (given_up_by (is_no_memory why) old.run)
+  decided_then = subst (λ (x : Option View). IsDecided x) (sym same) (decided_now L ev acts turn e old n s two rest live why memory ends)
 
-  shut_now : (marks_of mid).shut ≡ true
-  shut_now = or_left (number_of old == number_of old) (marks_of old).shut (eq-eqb (number_of old) (number_of old) refl)
+  shut_then : (marks_of mid).shut ≡ true
+  shut_then = shut_now L ev acts turn e old n s two rest live why memory ends
 
-  early_not : is_early mid ≡ false
-  early_not = and_right old.lost (not (marks_of mid).shut) (ap not shut_now)
-
-  early_then : old.lost ≡ true → is_early old ≡ true
-  early_then is = ap (λ (b : Bool). b && not (marks_of old).shut) is ∙ ap not unshut
-
-  run_same : given_up_by (is_no_memory why) old.run ≡ old.run
-  run_same = go old.lost refl
-    where
-      ended_run_same : old.lost ≡ true → (run : Option View) → old.run ≡ run → ended_run Dropped run ≡ run
-      ended_run_same is None run = refl
-      ended_run_same is (Some v) run =
-          let knows : KnowsChildren (site_of old) (number_of old) e (is_early old) n s.legs (Some v) =
-          subst (λ (r : Option View). KnowsChildren (site_of old) (number_of old) e (is_early old) n s.legs r) run (known_now L ev acts turn n e old s) in
-          ap (λ (w : View). Some w) (ended_again (is_early old) v knows.runs.view (early_then is) knows.runs.held_as)
-
-      go : (b : Bool) → old.lost ≡ b → given_up_by (is_no_memory why) old.run ≡ old.run
-      go true is = ap (λ (b : Bool). given_up_by b old.run) (memory ∙ is) ∙ ended_run_same is old.run refl
-      go false is = ap (λ (b : Bool). given_up_by b old.run) (memory ∙ is)
-
-  decided_now : IsDecided old.run
-  decided_now = go old.lost refl
-    where
-      by_run : (run : Option View) → old.run ≡ run → old.lost ≡ true → IsDecided run
-      by_run None run is = tt
-      by_run (Some v) run is = lost_decided L ev acts turn e old n s is v run
-
-      of_outcome : (leg : Leg) (run : Option View) → RunQuiet old e leg (outcome_of_run run) → IsDecided run
-      of_outcome leg None r = tt
-      of_outcome leg (Some v) r = of_some v.outcome r
-        where
-          of_some : (o : Option Outcome) → RunQuiet old e leg o → is_some o ≡ true
-          of_some None q = absurd (false≢true (sym q.2 ∙ ends))
-          of_some (Some o) q = refl
-
-      by_stage : (t : Stage) → old.stage ≡ t → QuietBy old e t → old.lost ≡ false → IsDecided old.run
-      by_stage (At.Running leg) at q found = of_outcome leg old.run q.1
-      by_stage At.Reading at q found = s.inward.decided found (ap is_running at)
-      by_stage (At.Rejected cause bare) at q found = absurd q
-      by_stage (At.Interrupted cause) at q found = absurd q
-      by_stage (At.Refused cause) at q found = s.inward.decided found (ap is_running at)
-      by_stage (At.Unstarted hop request) at q found = s.inward.decided found (ap is_running at)
-      by_stage (At.Starting leg launch body whole) at q found = absurd q
-      by_stage (At.Finishing text closes) at q found = absurd q
-      by_stage At.Answered at q found = s.inward.decided found (ap is_running at)
-      by_stage At.Silent at q found = s.inward.decided found (ap is_running at)
-
-      go : (b : Bool) → old.lost ≡ b → IsDecided old.run
-      go true is = by_run old.run refl is
-      go false found = by_stage old.stage refl (rest.1.found found).quiet found
-
-  deals : Deals (site_of old) (number_of old) L ev (acts ++ act ∷ []) (pushed e (Out act)) s.over (is_early mid) turn n s.legs (given_up_by (is_no_memory why) old.run)
-  deals =
-      subst (λ (r : Option View). Deals (site_of old) (number_of old) L ev (acts ++ act ∷ []) (pushed e (Out act)) s.over (is_early mid) turn n s.legs r) (sym run_same)
-      (subst (λ (b : Bool). Deals (site_of old) (number_of old) L ev (acts ++ act ∷ []) (pushed e (Out act)) s.over b turn n s.legs old.run) (sym early_not) (go old.lost refl))
-    where
-      go : (b : Bool) → old.lost ≡ b → Deals (site_of old) (number_of old) L ev (acts ++ act ∷ []) (pushed e (Out act)) s.over false turn n s.legs old.run
-      go true is =
-          subst (λ (w : Why). Deals (site_of old) (number_of old) L ev (acts ++ Shut (number_of old) w ∷ []) (pushed e (Out (Shut (number_of old) w))) s.over false turn n s.legs old.run) (sym (no_memory_is why (memory ∙ is)))
-          (shuts_move (site_of old) (number_of old) L ev acts e s.over turn n s.legs old.run two ended_not
-          (subst (λ (b : Bool). Deals (site_of old) (number_of old) L ev acts e s.over b turn n s.legs old.run) (early_then is) s.children))
-      go false is =
-          acts_move (site_of old) (number_of old) L ev acts e s.over act false turn n s.legs old.run two refl (ap not (memory ∙ is)) ended_not
-          (subst (λ (b : Bool). Deals (site_of old) (number_of old) L ev acts e s.over b turn n s.legs old.run) (ap (λ (b : Bool). b && not (marks_of old).shut) is) s.children)
-
-  keeps : ActsKeep (site_of old) (number_of old) e s.legs old.continued false (old.closing || old.closes) [] (act ∷ [])
-  keeps = quiet_acts_keep (site_of old) (number_of old) e s.legs old.continued false (old.closing || old.closes) [] (act ∷ []) two (refl, refl, tt)
-
-  lost_kept : (t : Stage) → old.stage ≡ t → LostIs (site_of old) (number_of old) e s.legs old.continued (old.closing || old.closes) t
-      → LostIs (site_of old) (number_of old) (pushed e (Out act)) s.legs old.continued (old.closing || old.closes) t
-  lost_kept At.Answered at l = keeps.kept At.Answered (some_answered L ev acts turn e old n s rest.1.unover at) l
-  lost_kept At.Reading at l = keeps.lost l
-  lost_kept (At.Rejected cause bare) at l = keeps.lost l
-  lost_kept (At.Interrupted cause) at l = keeps.lost l
-  lost_kept (At.Refused cause) at l = keeps.lost l
-  lost_kept (At.Unstarted hop request) at l = keeps.lost l
-  lost_kept (At.Starting leg launch body whole) at l = keeps.lost l
-  lost_kept (At.Running leg) at l = keeps.lost l
-  lost_kept (At.Finishing text closes) at l = keeps.lost l
-  lost_kept At.Silent at l = keeps.lost l
-
-  dead : is_live (marks_of mid) ≡ false
-  dead = and_right (marks_of mid).accepted (not (marks_of mid).shut) (ap not shut_now)
-
-  ends_now : (d : Exchange) → ends_at mid d ≡ true
-  ends_now d = go (may_write (marks_of mid)) (ap (λ (b : Bool). b && not (marks_of mid).upgraded) dead)
-    where
-      first : (a b c f h i j k l : Bool) → a ≡ false → (not a || b || c || f || h || i || j || k || l) ≡ true
-      first false b c f h i j k l e = refl
-      first true b c f h i j k l e = absurd (false≢true (sym e))
-
-      go : (b : Bool) → may_write (marks_of mid) ≡ false → ends_at mid d ≡ true
-      go b is =
-          first (may_write (marks_of mid)) (marks_of mid).stopped (marks_of mid).gone mid.lost mid.idled mid.closing mid.closes (is_some mid.cut) (is_done_with mid (request_bytes (number_of old) d)) is
-
-  run_quiet : (leg : Leg) (run : Option View) → IsDecided run → RunQuiet old e leg (outcome_of_run run) → RunQuiet mid (pushed e (Out act)) leg (outcome_of_run run)
-  run_quiet leg None d r = absurd (false≢true (sym r.2 ∙ ends))
-  run_quiet leg (Some v) d r = go v.outcome d r
-    where
-      go : (o : Option Outcome) → is_some o ≡ true → RunQuiet old e leg o → RunQuiet mid (pushed e (Out act)) leg o
-      go None d q = absurd (false≢true d)
-      go (Some Ended.Output) d q = q
-      go (Some (Ended.Failed cause)) d q = ends_now (pushed e (Out act))
-      go (Some Ended.Gone) d q = ends_now (pushed e (Out act))
-      go (Some Ended.Stopped) d q = ends_now (pushed e (Out act))
-      go (Some Ended.Dropped) d q = ends_now (pushed e (Out act))
-
-  quiet_at : (t : Stage) → QuietBy old e t → QuietBy mid (pushed e (Out act)) t
-  quiet_at (At.Running leg) q =
-      (q.0, subst (λ (r : Option View). RunQuiet mid (pushed e (Out act)) leg (outcome_of_run r)) (sym run_same) (run_quiet leg old.run decided_now q.1))
-  quiet_at At.Reading q = tt
-  quiet_at (At.Rejected cause bare) q = q
-  quiet_at (At.Interrupted cause) q = q
-  quiet_at (At.Refused cause) q = tt
-  quiet_at (At.Unstarted hop request) q = tt
-  quiet_at (At.Starting leg launch body whole) q = q
-  quiet_at (At.Finishing text closes) q = q
-  quiet_at At.Answered q = tt
-  quiet_at At.Silent q = tt
-
-  even_decided : (room : Bool) (t : Turn) (run : Option View) → IsAwake t → IsDecided run → EvenAt room t run
-  even_decided room t None awake d = tt
-  even_decided room waiting (Some v) awake d = absurd awake
-  even_decided room begun (Some v) awake d = tt
-  even_decided room (served may) (Some v) awake d = λ undecided. absurd (false≢true (sym undecided ∙ d))
+  dead_then : is_live (marks_of mid) ≡ false
+  dead_then = dead L ev acts turn e old n s two rest live why memory ends
 
   pub shuts_make : Makes Closed L ev acts e old n (gives act ∷ []) mid
   shuts_make = record {
-    in_step = (ended_not, tt);
-    right = (refl, refl, tt);
+    in_step = (ended_not L ev acts turn e old n s two rest live why memory ends, tt);
+    right = (record { start = refl; in_turn = refl; upgrade = refl; may = refl }, tt);
     turn = turn;
     over = s.over;
     legs = s.legs;
     staged = λ found.
-        staged_run old (marks_of mid) (given_up_by (is_no_memory why) old.run) (pushed e (Out act)) s.legs refl run_same
+        staged_run old (marks_of mid) (given_up_by (is_no_memory why) old.run) (pushed e (Out act)) s.legs refl same
         (others_staged old e s.legs act two (s.staged found) (calm_quiet old e s.legs old.stage (λ at. some_answered L ev acts turn e old n s rest.1.unover at) (rest.1.found found).quiet) refl refl);
-    lost = λ is. lost_kept old.stage refl (s.lost is);
-    children = deals;
-    bodies = λ found. bodies_quiet (site_of old) (number_of old) e (Out act) old.stage refl (s.bodies found);
+    lost = λ is. lost_kept L ev acts turn e old n s two rest live why memory ends old.stage refl (s.lost is);
+    memory = λ is shut. inr (or_left (number_of old == number_of old && is_no_memory why) false (and_from _ _ (eq-eqb (number_of old) (number_of old) refl) (memory ∙ is)));
+    children = deals L ev acts turn e old n s two rest live why memory ends;
+    heard = λ found. let h = heard_push old e (Out act) refl (s.heard found) in record { bodies = h.bodies; looked = h.looked; handed = h.handed };
     inward = record {
       calm = s.inward.calm;
+      calm_found = s.inward.calm_found;
       accepted = s.inward.accepted;
       http = s.inward.http;
       lost_in = s.inward.lost_in;
-      decided = λ found r. subst (λ (x : Option View). IsDecided x) (sym run_same) decided_now;
-      left = λ found is. s.inward.left found (sym (ap (λ (x : Option View). is_left (outcome_of_run x)) run_same) ∙ is);
-      cut_is = λ found. subst (λ (x : Option View). CutIs old.stage (outcome_of_run x) old.cut) (sym run_same) (s.inward.cut_is found);
-      held = λ shut. subst (λ (x : Option View). IsDecided x) (sym run_same) decided_now;
-      looked = s.inward.looked;
-      stays = λ found unshut_then. absurd (false≢true (sym unshut_then ∙ shut_now));
+      decided = λ found r. decided_then;
+      left = λ found is. s.inward.left found (sym (ap (λ (x : Option View). is_left (outcome_of_run x)) same) ∙ is);
+      cut_is = λ found. subst (λ (x : Option View). CutIs old.stage (outcome_of_run x) old.cut) (sym same) (s.inward.cut_is found);
+      held = λ shut. decided_then;
+      stays = λ found unshut_then. absurd (false≢true (sym unshut_then ∙ shut_then));
+      closes_is = s.inward.closes_is;
+      room = s.inward.room;
+      asked = s.inward.asked;
+      within = λ found open_yet either. let was = s.inward.within found open_yet either in record { untaken = was.untaken; looked = was.looked };
+      past = λ found open_yet unshut_then. absurd (false≢true (sym unshut_then ∙ shut_then));
     };
+    starts_first = first_quiet e (Out act) (λ k. refl) s.starts_first;
+    accepted = (and_parts (marks_of old).accepted (not (marks_of old).shut) live).0;
     post = record {
       rest = (
         rest.0,
         record {
-          unover = ap (λ (x : Option View). is_answered old.stage && run_settled x) run_same ∙ rest.1.unover;
+          unover = ap (λ (x : Option View). is_answered old.stage && run_settled x) same ∙ rest.1.unover;
           found = λ found. record {
-            quiet = quiet_at old.stage (rest.1.found found).quiet;
+            quiet = quiet_at L ev acts turn e old n s two rest live why memory ends old.stage (rest.1.found found).quiet;
             let_on = λ u first awaited. absurd (false≢true (sym ((rest.1.found found).let_on u first (sym (awaited-quiet (site_of old) (number_of old) e (Out act) refl) ∙ awaited)).0 ∙ ends));
           };
         },
-        even_decided (has_room (marks_of mid)) turn (given_up_by (is_no_memory why) old.run) rest.0 (subst (λ (x : Option View). IsDecided x) (sym run_same) decided_now),
+        even_decided L ev acts turn e old n s two rest live why memory ends (has_room (marks_of mid)) turn (given_up_by (is_no_memory why) old.run) rest.0 decided_then,
       );
-      shut_lost = λ is. shut_now;
-      on = λ alive. absurd (false≢true (sym dead ∙ alive));
-      still = λ alive. absurd (false≢true (sym dead ∙ alive));
+      shut_lost = λ is. shut_then;
+      on = λ alive. absurd (false≢true (sym dead_then ∙ alive));
+      still = λ alive. absurd (false≢true (sym dead_then ∙ alive));
     };
   }
 

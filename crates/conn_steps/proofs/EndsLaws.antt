@@ -1,16 +1,12 @@
 -- Where an exchange is over the next one begins.
-use Rattle.std.proofs.Common.{◌≡◌, ◌≤◌, ℕ, Bool, true, false, ◌&&◌, ◌||◌, not, List, [], ◌∷◌, ◌++◌, Option, None, refl, sym, ap, ◌∙◌, subst, append-nil}
-use Rattle.std.proofs.lemmas.Bool.{and_from, and_parts, false≢true, false_from_ne_true, not-true, or_parts}
-use Rattle.host_base.specs.declared.limits.Limits.{Limits}
+use Rattle.std.proofs.Common.{◌≡◌, ◌≤◌, ℕ, Bool, true, false, ◌&&◌, ◌||◌, not, List, [], ◌∷◌, ◌++◌, Option, None, refl, sym, ap, ◌∙◌, subst, append-nil, inl}
+use Rattle.std.proofs.lemmas.Bool.{and_from, and_parts, false≢true, false_from_ne_true, not-true, or_from, or_parts}
 use Rattle.host_base.specs.declared.site.Site.{Site}
 use Rattle.host_trace.specs.declared.items.Act.{Act}
 use Rattle.host_trace.specs.declared.items.Event.{Event}
 use Rattle.host_trace.specs.declared.items.Item.{Item}
 use Rattle.host_trace.specs.Projections.{shut}
-use Rattle.head_reader.specs.declared.step.HeadStep.TheVariants as Step
-use Rattle.request_reader.specs.Request.{is_begun, read_request}
-use Rattle.request_reader.proofs.ReadingLaws.{reading_at}
-use Rattle.request_reader.proofs.RequestLaws.{begun_at}
+use Rattle.request_reader.specs.Request.{is_begun}
 use Rattle.child_core.specs.View.{View}
 use Rattle.trace_model.specs.Exchange.{Exchange, reading, request_bytes}
 use Rattle.trace_model.specs.Exchanges.{following}
@@ -37,16 +33,14 @@ use Rattle.conn_core.specs.Settles.{Follows, ending_of, is_answered, is_over}
 use Rattle.conn_core.specs.Slot.{run_settled}
 use Rattle.conn_stages.specs.Staged.{Lost}
 use Rattle.conn_stages.proofs.EndLaws.{ends_noticed, is_at_answered}
+use Rattle.conn_stages.proofs.HeardRest.{due_begun}
 use Rattle.conn_stages.proofs.ItemLaws.{next_staged}
-use Rattle.conn_steps.specs.Standing.{BodiesAt, Claim, CutIs, IsDecided, Leaves, Makes, Quiet, QuietBy, Standing, StaysRun, ends_at, is_early, is_left}
+use Rattle.conn_stages.specs.Inward.{CutIs, IsDecided, IsPast, StaysRun, is_left, is_running}
+use Rattle.conn_steps.specs.Standing.{Claim, Leaves, Makes, Quiet, QuietBy, Standing, ends_at, is_early}
 use Rattle.conn_steps.proofs.EndWords.{goes}
 use Rattle.conn_core.specs.Parts.{Ends, EndsBy, Part}
 use Rattle.conn_steps.proofs.StageWords.{ended_lost, known, stage_at}
 use Rattle.conn_steps.proofs.ThenLaws.{leaves_made, leaves_none}
-
--- where 100 Continue is due a request has begun
-pub due_begun : (limits : Limits) (bytes : List ℕ) → 2 ≤ limits.head → is_due (read_request limits bytes) ≡ true → is_begun bytes ≡ true
-due_begun limits bytes two due = sym (begun_at limits bytes two (λ more. false≢true (sym (ap is_due (reading_at limits bytes Step.More more)) ∙ due)))
 
 -- what is to hold where an exchange is taken for ended: nothing was heard that ends the connection
 pub record Steady (conn : Conn) : Type 0 where
@@ -77,7 +71,7 @@ module _ (L : List Item) (ev : Event) (acts : List Act) (turn : Turn) (e : Excha
   open_yet = s.front.closing ∙ answered.unclosed
 
   calm : old.idled ≡ false
-  calm = false_from_ne_true old.idled (λ idle. false≢true (sym (ap is_reading at) ∙ s.inward.calm idle))
+  calm = false_from_ne_true old.idled (λ idle. false≢true (sym (s.inward.calm idle) ∙ ap is_answered at))
 
   ended : HasEnded (site_of old) (number_of old) e (ending_of old)
   ended = go old.lost refl
@@ -91,7 +85,7 @@ module _ (L : List Item) (ev : Event) (acts : List Act) (turn : Turn) (e : Excha
             next = n;
             children = known L ev acts turn n e old s found;
             calm = calm;
-            looked = s.inward.looked found (ap is_reading at);
+            looked = (s.heard found).looked (ap is_reading at);
           }) over
       go true is = record {
         over = ended_lost L ev acts turn n e old s is ∙ over;
@@ -166,6 +160,13 @@ module _ (L : List Item) (ev : Event) (acts : List Act) (turn : Turn) (e : Excha
       };
     }
 
+    -- the answer to a request that was not read to its end closes the connection
+    none_within : new.lost ≡ false → new.closing ≡ false → ((marks_of new).asked || (marks_of new).ended) ≡ true → ⊥
+    none_within found open_then either =
+        let both = or_parts old.closing old.closes (sym f.front.closing ∙ open_then) in
+        let was = s.inward.within (sym f.lost ∙ found) both.0 (sym (ap (λ (m : Marks). m.asked || m.ended) f.marks) ∙ either) in
+        false≢true (sym was.untaken ∙ ended.taken (sym f.lost ∙ found) (or_from e.closed old.closes answered.unclosed both.1))
+
     pub ends_make : (Post : Claim) → (old.lost ≡ false → (marks_of old).shut ≡ false → Steady old) → (Quiet then_e new → new.run ≡ None → Post turn then_e new) → Makes Post L ev acts e old n (settles (ending_of old) ∷ []) new
     ends_make Post steady post = record {
       in_step = (ended, tt);
@@ -175,20 +176,34 @@ module _ (L : List Item) (ev : Event) (acts : List Act) (turn : Turn) (e : Excha
       legs = [];
       staged = λ found. next_staged old new e s.legs (s.staged (sym f.lost ∙ found)) over ended.over f;
       lost = λ is. lost_then;
+      memory = λ is shut. inl (sym f.lost ∙ is, sym (ap (λ (m : Marks). m.shut) f.marks) ∙ shut);
       children = subst (λ (l : List Act). Deals (site_of new) (number_of new) L ev l then_e (s.over ++ e ∷ []) (is_early new) turn n [] new.run) (sym (append-nil acts)) deals_then;
-      bodies = λ found. subst (λ (t : Stage). BodiesAt (site_of new) (number_of new) then_e t) (sym f.stage) tt;
+      heard = λ found. record {
+        bodies = λ hop request waits. absurd (false≢true (sym (ap is_reading waits) ∙ ap is_reading f.stage));
+        looked = λ other. absurd (false≢true (sym other ∙ ap is_reading f.stage));
+        handed = λ ready. absurd (false≢true (sym f.front.ready ∙ ready));
+      };
       inward = record {
-        calm = λ idle. ap is_reading f.stage;
+        calm = λ idle. ap is_answered f.stage;
+        calm_found = λ found idle. ap is_running f.stage;
         accepted = λ r. absurd (false≢true (sym r ∙ ap is_reading f.stage));
         cut_is = λ found. subst (λ (t : Stage). CutIs t (outcome_of_run new.run) new.cut) (sym f.stage) (f.cut ∙ cut_none (sym f.lost ∙ found));
         held = λ shut. subst (λ (r : Option View). IsDecided r) (sym f.run) tt;
-        looked = λ found r. absurd (false≢true (sym r ∙ ap is_reading f.stage));
         http = ap (λ (m : Marks). m.upgraded) f.marks ∙ s.inward.http;
         lost_in = λ is. ap (λ (m : Marks). m.accepted) f.marks ∙ s.inward.accepted (ap is_reading at);
         decided = λ found r. subst (λ (r : Option View). IsDecided r) (sym f.run) tt;
         left = λ found is. absurd (false≢true (sym (ap (λ (r : Option View). is_left (outcome_of_run r)) f.run) ∙ is));
-        stays = λ found unshut ends. subst (λ (r : Option View). StaysRun r) (sym f.run) tt;
+        stays = λ found unshut ends whole. subst (λ (r : Option View). StaysRun r) (sym f.run) tt;
+        closes_is = λ is. absurd (false≢true (sym f.front.closes ∙ is));
+        room = λ found. ap (λ (m : Marks). m.no_room) f.marks ∙ s.inward.room (sym f.lost ∙ found);
+        asked = λ is.
+            let was = s.inward.asked (sym (ap (λ (m : Marks). m.asked) f.marks) ∙ is) in
+            (ap (λ (m : Marks). m.accepted) f.marks ∙ was.0, ap (λ (m : Marks). m.ended) f.marks ∙ was.1);
+        within = λ found open_then either. absurd (none_within found open_then either);
+        past = λ found open_then unshut is. subst (λ (t : Stage). IsPast t new.run) (sym f.stage) tt;
       };
+      starts_first = λ k started. absurd (false≢true started);
+      accepted = s.inward.accepted (ap is_reading at);
       post = post (quiet_then steady) f.run;
     }
 

@@ -20,16 +20,15 @@ use Rattle.conn_children.specs.Moves.{Deals}
 use Rattle.conn_children.proofs.MoveLaws.{no_child_moves}
 use Rattle.conn_front.specs.Moves.{Move, acts_of}
 use Rattle.conn_core.specs.declared.conn.Conn.{Conn}
-use Rattle.exchange_stage.specs.declared.stage.Stage.TheVariants as At
-use Rattle.conn_stages.proofs.StagedLaws.{no_last}
-use Rattle.conn_core.specs.Kept.{is_reading, marks_of, number_of, site_of}
+use Rattle.conn_core.specs.Kept.{marks_of, number_of, site_of}
 use Rattle.conn_core.specs.Parts.{Ends, Handles, LosesFeed, Part, ServesBy, ServesChild, ServesOrLoses, ServesRun, gives_all, the_one, the_other}
-use Rattle.conn_steps.specs.Standing.{Claim, EvenAt, IsDecided, Leaves, Makes, Quiet, Rest, Standing, is_early}
+use Rattle.conn_stages.specs.Inward.{IsDecided}
+use Rattle.conn_steps.specs.Standing.{Claim, EvenAt, Leaves, Makes, Quiet, Rest, Standing, is_early}
 use Rattle.conn_steps.proofs.EndsLaws.{ends_leave}
 use Rattle.conn_steps.proofs.LossLaws.{lost_with, makes_lost, over_lost, posts_lost}
-use Rattle.conn_steps.proofs.ServedLaws.{Handled, quiet_unended, serves_make}
-use Rattle.conn_steps.proofs.ReadLaws.{is_at_reading}
-use Rattle.conn_steps.proofs.StageWords.{known, known_now, stage_at, unwhole}
+use Rattle.conn_steps.proofs.QuietWords.{away_of, quiet_unended}
+use Rattle.conn_steps.proofs.ServedLaws.{Handled, serves_make}
+use Rattle.conn_steps.proofs.StageWords.{known_now, unwhole}
 use Rattle.conn_steps.proofs.ThenLaws.{leaves_made, leaves_none, then_leaves}
 
 -- ---- a child that is given up is decided
@@ -73,8 +72,11 @@ none_waits L ev acts e conn n s none = record {
   children = subst (λ (r : Option View). Deals (site_of conn) (number_of conn) L ev acts e s.over (is_early conn) begun n s.legs r) (sym none)
       (no_child_moves (site_of conn) (number_of conn) L ev acts e s.over (is_early conn) (is_early conn) waiting begun n s.legs
       (subst (λ (r : Option View). Deals (site_of conn) (number_of conn) L ev acts e s.over (is_early conn) waiting n s.legs r) none s.children));
-  bodies = s.bodies;
+  heard = s.heard;
   inward = s.inward;
+  unheard = s.unheard;
+  starts_first = s.starts_first;
+  for_memory = s.for_memory;
 }
 
 -- ---- what is due for it
@@ -96,15 +98,6 @@ module _ (L : List Item) (ev : Event) (acts : List Act) (e : Exchange) (old : Co
 
   serves_child_leave : ServesChild old n moves new → Leaves Handled L ev acts e old n moves new
   serves_child_leave by = by_run old.run refl by
-
--- a connection that has a child reads no request
-away_of : (L : List Item) (ev : Event) (acts : List Act) (turn : Turn) (e : Exchange) (conn : Conn) (n : ℕ) (s : Standing L ev acts turn n e conn) → conn.lost ≡ false → (v : View) → conn.run ≡ Some v
-    → is_reading conn.stage ≡ false
-away_of L ev acts turn e conn n s found v run =
-    let knows : KnowsChildren (site_of conn) (number_of conn) e false n s.legs (Some v) =
-    subst (λ (r : Option View). KnowsChildren (site_of conn) (number_of conn) e false n s.legs r) run (known L ev acts turn n e conn s found) in
-    false_from_ne_true (is_reading conn.stage) (λ reads.
-    no_last knows.runs.older knows.runs.leg (sym (stage_at conn e s.legs At.Reading (is_at_reading conn.stage reads) (s.staged found)).0.none ∙ knows.runs.are))
 
 -- still to be served
 abbrev Waits : Claim

@@ -21,12 +21,13 @@ use Rattle.conn_core.specs.Kept.{is_reading, marks_of, number_of, site_of}
 use Rattle.conn_core.specs.Reasons.{hears_at}
 use Rattle.conn_stages.proofs.AskLaws.{asks_due}
 use Rattle.conn_steps.specs.Standing.{Standing}
+use Rattle.conn_steps.proofs.CloseLaws.{Closed}
 use Rattle.conn_steps.proofs.ReadLaws.{is_at_reading}
 use Rattle.conn_steps.proofs.RestWords.{rests_now}
 use Rattle.conn_steps.proofs.StageWords.{known, more_in}
 use Rattle.conn_steps.proofs.WantLaws.{Done}
 
-module _ (L : List Item) (ev : Event) (acts : List Act) (turn : Turn) (e : Exchange) (conn : Conn) (n : ℕ) (s : Standing L ev acts turn n e conn) (d : Done turn e conn) (found : conn.lost ≡ false) where
+module _ (L : List Item) (ev : Event) (acts : List Act) (turn : Turn) (e : Exchange) (conn : Conn) (n : ℕ) (s : Standing L ev acts turn n e conn) (closed : Closed turn e conn) (found : conn.lost ≡ false) where
   live_same : live_then (number_of conn) (all_of e) ≡ is_live (marks_of conn)
   live_same = sym (marks_say (marks_of conn) (all_of e) s.marks).live
 
@@ -34,18 +35,18 @@ module _ (L : List Item) (ev : Event) (acts : List Act) (turn : Turn) (e : Excha
   looked live = go (is_reading conn.stage) refl
     where
       go : (b : Bool) → is_reading conn.stage ≡ b → (is_looked_at conn.request || is_taken conn.request) ≡ true
-      go false r = s.inward.looked found r
+      go false r = (s.heard found).looked r
       go true r =
           or_left (is_looked_at conn.request) (is_taken conn.request)
           (subst (λ (t : Stage). Rests (site_of conn) (number_of conn) e s.legs (is_looked_at conn.request) (more_in conn e s.legs (s.staged found)) t) (is_at_reading conn.stage r)
-          (rests_now L ev acts turn e conn n s d.closed found) (live_same ∙ live))
+          (rests_now L ev acts turn e conn n s closed found) (live_same ∙ live))
 
-  asks : is_live (marks_of conn) ≡ true → must_hear (site_of conn) (number_of conn) e ≡ (is_live (marks_of conn) && has_room (marks_of conn) && hears_at conn conn.stage)
+  pub asks : is_live (marks_of conn) ≡ true → must_hear (site_of conn) (number_of conn) e ≡ (is_live (marks_of conn) && has_room (marks_of conn) && hears_at conn conn.stage)
   asks live =
       asks_due conn e s.legs (record {
         front = s.front;
         staged = s.staged found;
-        rests = rests_now L ev acts turn e conn n s d.closed found;
+        rests = rests_now L ev acts turn e conn n s closed found;
         marks = s.marks;
         next = n;
         children = known L ev acts turn n e conn s found;
@@ -53,8 +54,8 @@ module _ (L : List Item) (ev : Event) (acts : List Act) (turn : Turn) (e : Excha
         looked = looked live;
       })
 
-  pub hears_found : hears (site_of conn) (number_of conn) e ≡ true
-  hears_found = go (is_live (marks_of conn)) refl
+  pub hears_by : (d : Done turn e conn) → hears (site_of conn) (number_of conn) e ≡ true
+  hears_by d = go (is_live (marks_of conn)) refl
     where
       by_ask : is_live (marks_of conn) ≡ true → (b : Bool) → must_hear (site_of conn) (number_of conn) e ≡ b → hears (site_of conn) (number_of conn) e ≡ true
       by_ask live false none = no_demand (must_hear (site_of conn) (number_of conn) e) (client_wanted (all_of e) (number_of conn)) none
@@ -62,9 +63,13 @@ module _ (L : List Item) (ev : Event) (acts : List Act) (turn : Turn) (e : Excha
           let p = and_parts (is_live (marks_of conn) && has_room (marks_of conn)) (hears_at conn conn.stage) (sym (asks live) ∙ must) in
           let q = and_parts (is_live (marks_of conn)) (has_room (marks_of conn)) p.0 in
           met (must_hear (site_of conn) (number_of conn) e) (client_wanted (all_of e) (number_of conn))
-          (sym (marks_say (marks_of conn) (all_of e) s.marks).asked ∙ d.asked (d.closed.on live) q.1 p.1)
+          (sym (marks_say (marks_of conn) (all_of e) s.marks).asked ∙ d.asked (closed.on live) q.1 p.1)
 
       go : (b : Bool) → is_live (marks_of conn) ≡ b → hears (site_of conn) (number_of conn) e ≡ true
       go true live = by_ask live (must_hear (site_of conn) (number_of conn) e) refl
       go false dead =
           no_demand (must_hear (site_of conn) (number_of conn) e) (client_wanted (all_of e) (number_of conn)) (shut_asks (site_of conn) (number_of conn) e (live_same ∙ dead))
+
+pub hears_found : (L : List Item) (ev : Event) (acts : List Act) (turn : Turn) (e : Exchange) (conn : Conn) (n : ℕ) → Standing L ev acts turn n e conn → Done turn e conn → conn.lost ≡ false
+    → hears (site_of conn) (number_of conn) e ≡ true
+hears_found L ev acts turn e conn n s d found = hears_by L ev acts turn e conn n s d.closed found d

@@ -1,5 +1,5 @@
 -- What waits for its turn is made ready, and given.
-use Rattle.std.proofs.Common.{◌≡◌, ◌≤◌, ℕ, Bool, true, false, ◌&&◌, ◌||◌, not, List, [], ◌∷◌, ◌++◌, Option, Result, Ok, Err, refl, sym, ap, ◌∙◌, subst, append-nil}
+use Rattle.std.proofs.Common.{◌≡◌, ◌≤◌, ℕ, Bool, true, false, ◌&&◌, ◌||◌, not, List, [], ◌∷◌, ◌++◌, Option, Result, Ok, Err, refl, sym, ap, ◌∙◌, subst, append-nil, inl}
 use Rattle.std.specs.Prelude.{nat_lt}
 use Rattle.std.proofs.lemmas.Bool.{false≢true, or_from}
 use Rattle.host_base.specs.declared.cause.Cause.{Cause}
@@ -34,9 +34,11 @@ use Rattle.conn_core.specs.Slot.{run_settled}
 use Rattle.conn_stages.specs.Staged.{Staged}
 use Rattle.conn_stages.proofs.HopLaws.{hops_staged}
 use Rattle.conn_core.specs.Parts.{GivesHop, GivesHopBy, MakesHopReady, Nothing}
-use Rattle.conn_steps.specs.Standing.{BodiesAt, CutIs, EvenAt, IsAwake, Leaves, Makes, Quiet, ReadyAt, Rest, Standing, Within, ends_at, is_early, is_running}
+use Rattle.conn_stages.specs.Inward.{CutIs, IsPast, is_running}
+use Rattle.conn_steps.specs.Standing.{EvenAt, IsAwake, Leaves, Makes, Quiet, ReadyAt, Rest, Standing, Within, ends_at, is_early}
 use Rattle.conn_steps.proofs.EndWords.{Going, accepted_of, goes, going, unshut_of}
-use Rattle.conn_steps.proofs.GiveLaws.{rest_leaves}
+use Rattle.conn_steps.proofs.LastLaws.{rest_leaves}
+use Rattle.conn_steps.proofs.BodyWords.{is_unstarted, no_script_waits}
 use Rattle.conn_steps.proofs.HopWords.{may_hop}
 use Rattle.conn_steps.proofs.StageWords.{even_free, free_settled}
 use Rattle.conn_steps.proofs.StartLaws.{start_leaves}
@@ -69,8 +71,9 @@ module _ (L : List Item) (ev : Event) (acts : List Act) (turn : Turn) (e : Excha
   deals_same : Deals (site_of old) (number_of old) L ev (acts ++ []) e s.over (is_early old) turn n s.legs old.run
   deals_same = subst (λ (l : List Act). Deals (site_of old) (number_of old) L ev l e s.over (is_early old) turn n s.legs old.run) (sym (append-nil acts)) s.children
 
-  module _ (stage : Stage) (staged : Staged (record old { stage = stage }) e s.legs) (cut : CutIs stage (outcome_of_run old.run) old.cut) (bodies : BodiesAt (site_of old) (number_of old) e stage)
-      (away : is_reading old.stage ≡ false) (still : is_running old.stage ≡ false) (reads : is_reading stage ≡ false) (none : is_answered stage ≡ false) (given : gives_hop stage ≡ true) where
+  module _ (stage : Stage) (staged : Staged (record old { stage = stage }) e s.legs) (cut : CutIs stage (outcome_of_run old.run) old.cut) (waits : is_unstarted stage ≡ false)
+      (away : is_reading old.stage ≡ false) (still : is_running old.stage ≡ false) (reads : is_reading stage ≡ false) (none : is_answered stage ≡ false) (given : gives_hop stage ≡ true)
+      (past : IsPast old.stage old.run → IsPast stage old.run) where
     abbrev mid : Conn
     mid = record old { stage = stage }
 
@@ -83,10 +86,12 @@ module _ (L : List Item) (ev : Event) (acts : List Act) (turn : Turn) (e : Excha
       legs = s.legs;
       staged = λ f. staged;
       lost = λ is. absurd (false≢true (sym g.found ∙ is));
+      memory = λ is. absurd (false≢true (sym g.found ∙ is));
       children = deals_same;
-      bodies = λ f. bodies;
+      heard = λ f. record { bodies = no_script_waits (site_of old) (number_of old) e stage waits; looked = λ r. (s.heard f).looked away; handed = (s.heard f).handed };
       inward = record {
         calm = λ idle. absurd (false≢true (sym g.calm ∙ idle));
+        calm_found = λ found idle. absurd (false≢true (sym g.calm ∙ idle));
         accepted = λ r. accepted_of old (is_done_with old bytes) g;
         http = s.inward.http;
         lost_in = λ is. absurd (false≢true (sym g.found ∙ is));
@@ -94,9 +99,15 @@ module _ (L : List Item) (ev : Event) (acts : List Act) (turn : Turn) (e : Excha
         left = s.inward.left;
         cut_is = λ f. cut;
         held = λ shut. absurd (false≢true (sym (unshut_of old (is_done_with old bytes) g) ∙ shut));
-        looked = λ f r. s.inward.looked f away;
         stays = λ f unshut ends. absurd (false≢true (sym (or_from _ _ g.unstopped g.here) ∙ ends));
+        closes_is = λ is. absurd (false≢true (sym g.unclosed ∙ is));
+        room = s.inward.room;
+        asked = s.inward.asked;
+        within = λ f open_yet either. record { untaken = (s.inward.within f open_yet either).untaken; looked = λ r. absurd (false≢true (sym reads ∙ r)) };
+        past = λ f open_yet unshut is. past (s.inward.past f open_yet unshut is);
       };
+      starts_first = s.starts_first;
+      accepted = accepted_of old (is_done_with old bytes) g;
       post = record {
         same = refl;
         found = g.found;
@@ -127,9 +138,12 @@ module _ (L : List Item) (ev : Event) (acts : List Act) (turn : Turn) (e : Excha
     legs = s.legs;
     staged = s.staged;
     lost = s.lost;
+    memory = λ is shut. inl (is, shut);
     children = deals_same;
-    bodies = s.bodies;
+    heard = s.heard;
     inward = s.inward;
+    starts_first = s.starts_first;
+    accepted = accepted_of old (is_done_with old bytes) g;
     post = record { same = refl; found = g.found; unover = q.unover; on = on; settled = settled; room = room; quiet = λ gives. q };
   }
 
@@ -143,26 +157,27 @@ module _ (L : List Item) (ev : Event) (acts : List Act) (turn : Turn) (e : Excha
     refuses : (cause : Cause) → is_reading old.stage ≡ false → is_running old.stage ≡ false → Refuses cause stamp (silenced old) new → Makes (HopReady turn) L ev acts e old n [] new
     refuses cause away still r =
         subst (λ (c : Conn). Makes (HopReady turn) L ev acts e old n [] c) (sym r.fault.is)
-        (hop_as (At.Finishing r.fault.text r.closes) (subst (λ (c : Conn). Staged c e s.legs) r.fault.is (staged_new away)) g.uncut tt away still refl refl refl)
+        (hop_as (At.Finishing r.fault.text r.closes) (subst (λ (c : Conn). Staged c e s.legs) r.fault.is (staged_new away)) g.uncut refl away still refl refl refl (λ p. tt))
 
-    starts : (hop : ℕ) (kind : ScriptKind) (request : Request) (mapped : Mapped) → is_reading old.stage ≡ false → is_running old.stage ≡ false → Starts hop kind request mapped (silenced old) new → Makes (HopReady turn) L ev acts e old n [] new
-    starts hop kind request mapped away still r =
+    starts : (hop : ℕ) (kind : ScriptKind) (request : Request) (mapped : Mapped) → is_reading old.stage ≡ false → is_running old.stage ≡ false → (IsPast old.stage old.run → hop ≡ 0 → ⊥) → Starts hop kind request mapped (silenced old) new → Makes (HopReady turn) L ev acts e old n [] new
+    starts hop kind request mapped away still waits r =
         subst (λ (c : Conn). Makes (HopReady turn) L ev acts e old n [] c) (sym r.is)
-        (hop_as (At.Starting r.leg r.launch request.body (nat_lt 0 hop || is_taken old.request)) (subst (λ (c : Conn). Staged c e s.legs) r.is (staged_new away)) g.uncut tt away still refl refl refl)
+        (hop_as (At.Starting r.leg r.launch request.body (nat_lt 0 hop || is_taken old.request)) (subst (λ (c : Conn). Staged c e s.legs) r.is (staged_new away)) g.uncut refl away still refl refl refl
+        (λ p first. waits p (sym r.leg_is.hop_is ∙ first)))
 
-    found_as : (hop : ℕ) (kind : ScriptKind) (request : Request) (mapped : Mapped) → is_reading old.stage ≡ false → is_running old.stage ≡ false → ScriptBy kind hop request mapped stamp (silenced old) new
+    found_as : (hop : ℕ) (kind : ScriptKind) (request : Request) (mapped : Mapped) → is_reading old.stage ≡ false → is_running old.stage ≡ false → (IsPast old.stage old.run → hop ≡ 0 → ⊥) → ScriptBy kind hop request mapped stamp (silenced old) new
         → Makes (HopReady turn) L ev acts e old n [] new
-    found_as hop Cgi request mapped away still b = starts hop Cgi request mapped away still b
-    found_as hop Nph request mapped away still b = starts hop Nph request mapped away still b
-    found_as hop WebSocket request mapped away still b = refuses b.0 away still b.2
+    found_as hop Cgi request mapped away still waits b = starts hop Cgi request mapped away still waits b
+    found_as hop Nph request mapped away still waits b = starts hop Nph request mapped away still waits b
+    found_as hop WebSocket request mapped away still waits b = refuses b.0 away still b.2
 
-    placed : (hop : ℕ) (request : Request) (answer : Result Mapped Cause) → is_reading old.stage ≡ false → is_running old.stage ≡ false → PlaceBy answer hop request stamp (silenced old) new → Makes (HopReady turn) L ev acts e old n [] new
-    placed hop request (Ok mapped) away still f = found_as hop f.kind request mapped away still f.by
-    placed hop request (Err cause) away still r = refuses cause away still r
+    placed : (hop : ℕ) (request : Request) (answer : Result Mapped Cause) → is_reading old.stage ≡ false → is_running old.stage ≡ false → (IsPast old.stage old.run → hop ≡ 0 → ⊥) → PlaceBy answer hop request stamp (silenced old) new → Makes (HopReady turn) L ev acts e old n [] new
+    placed hop request (Ok mapped) away still waits f = found_as hop f.kind request mapped away still waits f.by
+    placed hop request (Err cause) away still waits r = refuses cause away still r
 
     by_stage : (t : Stage) → old.stage ≡ t → ReadiesHop t stamp old new → Makes (HopReady turn) L ev acts e old n [] new
     by_stage (At.Refused cause) at r = refuses cause (ap is_reading at) (ap is_running at) r
-    by_stage (At.Unstarted hop request) at p = placed hop request p.answer (ap is_reading at) (ap is_running at) p.by
+    by_stage (At.Unstarted hop request) at p = placed hop request p.answer (ap is_reading at) (ap is_running at) (λ past first. subst (λ (t : Stage). IsPast t old.run) at past first) p.by
     by_stage At.Reading at same = unchanged same
     by_stage (At.Rejected cause bare) at same = unchanged same
     by_stage (At.Interrupted cause) at same = unchanged same

@@ -1,53 +1,32 @@
 -- A hop has its turn.
-use Rattle.std.proofs.Common.{◌≡◌, ℕ, zero, suc, Bool, true, false, ◌||◌, not, List, [], ◌∷◌, ◌++◌, Option, sym, ap, ◌∙◌, subst, arith}
-use Rattle.std.specs.Prelude.{nat_lt}
-use Rattle.std.proofs.lemmas.Bool.{and_from, false≢true, false_from_ne_true, lt-ltb, or_left}
-use Rattle.host_base.specs.declared.limits.Limits.{Limits}
-use Rattle.host_base.specs.declared.request.Request.{Request}
+use Rattle.std.proofs.Common.{◌≡◌, ℕ, true, false, ◌||◌, not, List, [], ◌∷◌, ◌++◌, Option, sym, ap, ◌∙◌}
+use Rattle.std.proofs.lemmas.Bool.{and_from, false≢true, false_from_ne_true}
 use Rattle.host_trace.specs.declared.items.Act.{Act}
 use Rattle.host_trace.specs.declared.items.Event.{Event}
 use Rattle.host_trace.specs.declared.items.Item.{Item}
 use Rattle.host_trace.specs.declared.items.Item.TheVariants.{In}
 use Rattle.host_trace.specs.Account.{has_unsettled}
 use Rattle.host_trace.specs.Projections.{last_secs}
-use Rattle.request_reader.specs.Request.{read_request}
 use Rattle.trace_model.specs.Demands.{has_room as room_then, may_go_on}
-use Rattle.trace_model.specs.Exchange.{Exchange, all_of, reading, request_bytes, up_to}
-use Rattle.trace_model.specs.Legs.{offered_at}
-use Rattle.trace_model.specs.Readings.{is_whole}
+use Rattle.trace_model.specs.Exchange.{Exchange, all_of}
 use Rattle.exchange_request.specs.Knows.{is_looked_at, is_taken}
-use Rattle.exchange_request.proofs.KnowsLaws.{knows_whole}
 use Rattle.exchange_reply.specs.StepRules.{is_continued}
-use Rattle.exchange_stage.specs.declared.stage.Stage.{Stage}
-use Rattle.exchange_stage.specs.declared.stage.Stage.TheVariants as At
-use Rattle.exchange_stage.specs.Bodies.{HasBody}
 use Rattle.exchange_stage.specs.Items.{is_unanswered}
 use Rattle.exchange_stage.specs.Unanswered.{is_awaited}
-use Rattle.exchange_stage.proofs.BodyStageLaws.{offers_are_bodies}
 use Rattle.exchange_stage.proofs.WholeLaws.{continues_stand}
 use Rattle.conn_laws.proofs.FormLaws.{marks_say}
 use Rattle.conn_marks.specs.View.{has_room}
 use Rattle.conn_children.specs.Step.{Turn}
 use Rattle.conn_children.proofs.KnowLaws.{unsettled_exact}
-use Rattle.conn_front.specs.Front.{IsHeard}
 use Rattle.conn_core.specs.declared.conn.Conn.{Conn}
 use Rattle.conn_core.specs.Kept.{is_reading, marks_of, number_of, site_of}
 use Rattle.conn_core.specs.Slot.{run_settled}
 use Rattle.conn_stages.specs.Staged.{MayHop}
-use Rattle.conn_steps.specs.Standing.{BodiesAt, Quiet, Standing, ends_at, is_early}
+use Rattle.conn_stages.proofs.HeardOffers.{offers_are_known}
+use Rattle.conn_steps.specs.Standing.{Quiet, Standing, ends_at, is_early}
 use Rattle.conn_steps.proofs.EndWords.{going, unclosed_of}
 use Rattle.conn_steps.proofs.ReadyWords.{secs_acts}
 use Rattle.conn_steps.proofs.StageWords.{known, known_now, more_in, same_settled, stage_is}
-
--- ---- whether the request was read to its end
-
-module _ (L : List Item) (ev : Event) (acts : List Act) (turn : Turn) (e : Exchange) (old : Conn) (n : ℕ) (s : Standing L ev acts turn n e old) (found : old.lost ≡ false) where
-  pub taken_is : e.closed ≡ false → (is_looked_at old.request || is_taken old.request) ≡ true → is_taken old.request ≡ is_whole (reading (site_of old) (number_of old) e)
-  taken_is unclosed looked =
-      knows_whole old.request (request_bytes (number_of old) e) h.taken h.knows looked ∙ ap (λ (l : Limits). is_whole (read_request l (request_bytes (number_of old) e))) s.front.limits
-    where
-      h : IsHeard old.request (is_reading old.stage) (request_bytes (number_of old) e)
-      h = s.front.request found unclosed
 
 -- ---- no child is left, and there is room
 
@@ -70,20 +49,7 @@ module _ (L : List Item) (ev : Event) (acts : List Act) (turn : Turn) (e : Excha
         unawaited
 
     looked : (is_looked_at old.request || is_taken old.request) ≡ true
-    looked = s.inward.looked found away
-
-    offers : (hop : ℕ) (request : Request) → old.stage ≡ At.Unstarted hop request
-        → offered_at (site_of old) (number_of old) (up_to e []) hop e.items ≡ record { body = request.body; whole = nat_lt 0 hop || is_taken old.request }
-    offers hop request at = go hop (subst (λ (t : Stage). BodiesAt (site_of old) (number_of old) e t) at (s.bodies found))
-      where
-        go : (h : ℕ) → HasBody (site_of old) (number_of old) e h request
-            → offered_at (site_of old) (number_of old) (up_to e []) h e.items ≡ record { body = request.body; whole = nat_lt 0 h || is_taken old.request }
-        go zero has =
-            offers_are_bodies (site_of old) (number_of old) e 0 request has
-            ∙ ap (λ (b : Bool). record { body = request.body; whole = b }) (sym (taken_is L ev acts turn e old n s found (unclosed_of old e _ s.front (going old _ on)) looked))
-        go (suc h) has =
-            offers_are_bodies (site_of old) (number_of old) e (suc h) request has
-            ∙ ap (λ (b : Bool). record { body = request.body; whole = b }) (sym (or_left (nat_lt 0 (suc h)) (is_taken old.request) (lt-ltb 0 (suc h) (omega arith))))
+    looked = (s.heard found).looked away
 
     pub may_hop : (stamp : Option ℕ) → stamp ≡ last_secs (L ++ In ev ∷ []) → MayHop old e s.legs stamp
     may_hop stamp clock = record {
@@ -99,5 +65,5 @@ module _ (L : List Item) (ev : Event) (acts : List Act) (turn : Turn) (e : Excha
         stamp_is = clock ∙ (sym (secs_acts (L ++ In ev ∷ []) acts) ∙ ap (λ (l : List Item). last_secs l) (sym s.children.knows.items));
       };
       turn = may_turn settled room;
-      offers = offers;
+      offers = λ hop request at. offers_are_known old e hop request s.front found (unclosed_of old e _ s.front (going old _ on)) (s.heard found) at;
     }

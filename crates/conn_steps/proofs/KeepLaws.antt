@@ -1,5 +1,5 @@
 -- The rules that hold at the end of a step.
-use Rattle.std.proofs.Common.{◌≡◌, ◌≤◌, ℕ, Bool, true, false, List, [], ◌∷◌, ◌++◌, map, Option, refl, sym, ap, ◌∙◌, subst, append_assoc}
+use Rattle.std.proofs.Common.{◌≡◌, ◌≤◌, ℕ, Bool, true, false, ◌||◌, List, [], ◌∷◌, ◌++◌, map, Option, refl, sym, ap, ◌∙◌, subst, append_assoc}
 use Rattle.std.specs.List.{list_all}
 use Rattle.std.proofs.lemmas.Bool.{and_from}
 use Rattle.std.proofs.lemmas.List.Folds.{list_all-append}
@@ -10,18 +10,18 @@ use Rattle.host_trace.specs.declared.items.Item.{Item}
 use Rattle.host_trace.specs.declared.items.Item.TheVariants.{In, Out}
 use Rattle.host_trace.specs.Projections.{last_secs, shut_for_memory}
 use Rattle.host_trace.specs.Trace.{after_step, step_of}
-use Rattle.trace_model.specs.Answers.{answers, begins_in_turn}
+use Rattle.trace_model.specs.Answers.{answers}
 use Rattle.trace_model.specs.Begins.{begins}
 use Rattle.trace_model.specs.Children.{ChildrenGood}
 use Rattle.trace_model.specs.Continues.{continues_then}
 use Rattle.trace_model.specs.Exchange.{Exchange, all_of, request_bytes}
 use Rattle.trace_model.specs.Exchanges.{current, current_after, ended_after, ended_by, has_ended}
 use Rattle.trace_model.specs.Hops.{hops}
-use Rattle.trace_model.specs.Launches.{is_right_start}
 use Rattle.trace_model.specs.Replies.{is_silent_once_closed, replies, replies_end}
-use Rattle.trace_model.specs.Steps.{each_act_from, ended_in, exchanges_in, goes_on}
+use Rattle.trace_model.specs.Steps.{ended_in, exchanges_in, goes_on}
 use Rattle.trace_model.specs.Streams.{begins_no_sooner, streams}
 use Rattle.trace_model.proofs.ExchangeLaws.{current-append, ended_after-append}
+use Rattle.exchange_request.specs.Knows.{is_looked_at}
 use Rattle.exchange_stage.specs.Rules.{KeepsStepRules}
 use Rattle.exchange_stage.proofs.ShutLaws.{continues_are_given}
 use Rattle.conn_laws.proofs.FormLaws.{marks_say}
@@ -36,7 +36,7 @@ use Rattle.conn_core.specs.Reasons.{is_done_with}
 use Rattle.conn_steps.specs.Laws.{KeepsStep, LostEnds}
 use Rattle.conn_core.specs.Parts.{Steps}
 use Rattle.conn_steps.specs.Standing.{Apt, Leaves, Standing, is_early}
-use Rattle.conn_steps.proofs.ActWords.{ended_silent, launches_right, next, turns_right}
+use Rattle.conn_steps.proofs.ActWords.{EachRight, acts_right, ended_silent, next}
 use Rattle.conn_steps.proofs.EndWords.{going, unclosed_of}
 use Rattle.conn_steps.proofs.LostWords.{lost_ends_well}
 use Rattle.conn_steps.proofs.RestWords.{children_good, continued_end, current_is, on_now, rules_kept}
@@ -47,8 +47,9 @@ use Rattle.exchange_stage.proofs.RestLaws.{no_demand}
 use Rattle.conn_steps.proofs.HearWords.{hears_found}
 use Rattle.conn_steps.proofs.StageWords.{known_now}
 use Rattle.conn_steps.proofs.TalkWords.{none_says, none_talks}
+use Rattle.conn_steps.proofs.WelcomeWords.{losses_upgrade_none, stages_upgrade_none}
 use Rattle.trace_model.specs.Says.{says}
-use Rattle.trace_model.specs.Talks.{talks}
+use Rattle.trace_model.specs.Talks.{talks, upgrades}
 use Rattle.conn_steps.proofs.WantLaws.{Done, steps_leave}
 
 -- ---- by the exchange that goes on
@@ -62,6 +63,7 @@ record Ends (site : Site) (c : ℕ) (lost : Bool) (e : Exchange) : Type 0 where
   pub continues_on : continues_then site c e ≡ true
   pub hears_then : hears site c e ≡ true
   pub talks_then : talks site c e ≡ true
+  pub upgrades_then : upgrades site c e ≡ true
   pub says_then : says site c e ≡ true
   pub streams_then : streams site c e ≡ true
   pub no_sooner : begins_no_sooner site c e ≡ true
@@ -81,6 +83,7 @@ module _ (L : List Item) (ev : Event) (acts : List Act) (turn : Turn) (e : Excha
             (continued_end L ev acts turn e conn n s d.closed found);
         hears_then = hears_found L ev acts turn e conn n s d found;
         talks_then = none_talks (site_of conn) (number_of conn) e (is_early conn) n s.legs conn.run (known_now L ev acts turn n e conn s);
+        upgrades_then = stages_upgrade_none (site_of conn) (number_of conn) e s.legs conn.continued (is_looked_at conn.request) (conn.closing || conn.closes) (s.staged found).more conn.stage (s.staged found).is;
         says_then = none_says (site_of conn) (number_of conn) e (is_early conn) n s.legs conn.run (known_now L ev acts turn n e conn s);
         streams_then = k.streams_then;
         no_sooner = k.no_sooner;
@@ -98,6 +101,7 @@ module _ (L : List Item) (ev : Event) (acts : List Act) (turn : Turn) (e : Excha
         continues_on = k.demands.continues_then;
         hears_then = no_demand (must_hear (site_of conn) (number_of conn) e) (client_wanted (all_of e) (number_of conn)) k.demands.asks_none;
         talks_then = none_talks (site_of conn) (number_of conn) e (is_early conn) n s.legs conn.run (known_now L ev acts turn n e conn s);
+        upgrades_then = losses_upgrade_none (site_of conn) (number_of conn) e s.legs conn.continued (conn.closing || conn.closes) conn.stage (s.lost is);
         says_then = none_says (site_of conn) (number_of conn) e (is_early conn) n s.legs conn.run (known_now L ev acts turn n e conn s);
         streams_then = k.demands.streams_then;
         no_sooner = k.no_sooner;
@@ -166,18 +170,24 @@ module _ (L : List Item) (ev : Event) (e : Exchange) (old new : Conn) (n : ℕ) 
       ∙ and_from _ _ over (ended_silent site c e moves l.in_step l.right on)))
       (and_from _ _ ends_here.silent refl)
 
+  each : EachRight site c (current site c (L ++ In ev ∷ [])) acts
+  each = subst (λ (d : Exchange). EachRight site c d acts) (sym heard_is) (acts_right site c e moves l.in_step l.right)
+
   kept : KeepsStep site c new.lost (step_of L ev acts)
   kept = record {
     replies_then = ends_here.replies_then;
     replies_end_then = all_silent;
-    launches = ap (λ (d : Exchange). each_act_from site c (is_right_start site c) d acts) heard_is ∙ launches_right site c e moves l.in_step l.right;
-    in_turn = ap (λ (d : Exchange). each_act_from site c (begins_in_turn site c) d acts) heard_is ∙ turns_right site c e moves l.in_step l.right;
+    launches = each.launches;
+    upgrade_acts = each.upgrades;
+    givings = each.givings;
+    in_turn = each.in_turn;
     begins_then = ends_here.begins_then;
     answers_then = ends_here.answers_then;
     hops_then = ends_here.hops_then;
     continues_on = ends_here.continues_on;
     hears_then = ends_here.hears_then;
     talks_then = ends_here.talks_then;
+    upgrades_then = ends_here.upgrades_then;
     says_then = ends_here.says_then;
     streams_then = ends_here.streams_then;
     no_sooner = ends_here.no_sooner;

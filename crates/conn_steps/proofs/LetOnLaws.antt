@@ -35,10 +35,12 @@ use Rattle.conn_core.specs.Reasons.{ends_with, is_done_with}
 use Rattle.conn_core.specs.Writes.{continued}
 use Rattle.conn_stages.proofs.EndLaws.{continues_staged}
 use Rattle.conn_core.specs.Parts.{Continues, LetsOn, LetsOnBy, Loses, Or, Part, the_one, the_other}
+use Rattle.conn_stages.proofs.StartWords.{first_quiet}
 use Rattle.conn_steps.specs.Standing.{AptAt, Leaves, LetOn, Makes, Read, Standing, Within, ends_at, is_early}
 use Rattle.conn_steps.proofs.EndWords.{Going, accepted_of, ends_same, going, unclosed_of, unshut_of}
 use Rattle.conn_steps.proofs.LossLaws.{lost_with, loses, over_lost, posts_lost}
-use Rattle.conn_steps.proofs.PushWords.{bodies_quiet, bytes_quiet, unanswered_at, unanswered_unended}
+use Rattle.conn_steps.proofs.BodyWords.{heard_push}
+use Rattle.conn_steps.proofs.PushWords.{bytes_quiet, unanswered_at, unanswered_unended}
 use Rattle.conn_steps.proofs.StageWords.{ended_found, free_lost, more_in, stage_is, unwhole}
 use Rattle.conn_steps.proofs.ThenLaws.{leaves_made, leaves_none}
 
@@ -111,20 +113,28 @@ module _ (L : List Item) (ev : Event) (acts : List Act) (turn : Turn) (e : Excha
       legs = s.legs;
       staged = λ f. continues_staged old e s.legs two (s.staged g.found) unanswered first awaited;
       lost = λ is. absurd (false≢true (sym g.found ∙ is));
+      memory = λ is. absurd (false≢true (sym g.found ∙ is));
       children = acts_move (site_of old) (number_of old) L ev acts e s.over (Write (number_of old) continue_text) (is_early old) turn n s.legs old.run two refl refl on s.children;
-      bodies = λ f. bodies_quiet (site_of old) (number_of old) e (Out (Write (number_of old) continue_text)) old.stage refl (s.bodies f);
+      heard = λ f. let h = heard_push old e (Out (Write (number_of old) continue_text)) refl (s.heard f) in record { bodies = h.bodies; looked = h.looked; handed = h.handed };
       inward = record {
         calm = s.inward.calm;
+        calm_found = s.inward.calm_found;
         accepted = s.inward.accepted;
         cut_is = s.inward.cut_is;
         held = s.inward.held;
-        looked = s.inward.looked;
         http = s.inward.http;
         lost_in = s.inward.lost_in;
         decided = s.inward.decided;
         left = s.inward.left;
         stays = s.inward.stays;
+        closes_is = s.inward.closes_is;
+        room = s.inward.room;
+        asked = s.inward.asked;
+        within = λ f open_yet either. let was = s.inward.within f open_yet either in record { untaken = was.untaken; looked = was.looked };
+        past = s.inward.past;
       };
+      starts_first = first_quiet e (Out (Write (number_of old) continue_text)) (λ k. refl) s.starts_first;
+      accepted = accepted_of old (is_done_with old bytes) g;
       post = (
         refl,
         free,

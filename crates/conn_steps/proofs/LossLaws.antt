@@ -20,7 +20,7 @@ use Rattle.conn_children.specs.Moves.{Deals, may_lose}
 use Rattle.conn_children.proofs.MoveLaws.{losses_move}
 use Rattle.conn_front.specs.Moves.{Move}
 use Rattle.conn_core.specs.declared.conn.Conn.{Conn}
-use Rattle.conn_core.specs.Kept.{is_reading, marks_of, number_of, site_of}
+use Rattle.conn_core.specs.Kept.{marks_of, number_of, site_of}
 use Rattle.conn_core.specs.Moves.{ended_run, losing}
 use Rattle.conn_core.specs.Settles.{is_answered, is_over}
 use Rattle.conn_core.specs.Slot.{run_settled}
@@ -117,7 +117,7 @@ module _ (Post : Claim) (L : List Item) (ev : Event) (acts : List Act) (turn : T
     pub unwhole : is_answered old.stage ≡ false → stands_whole (site_of old) (number_of old) e ≡ false
 
   module _ (may : MayLose) (stage : Stage) (request : Incoming) (answered : is_answered stage ≡ is_answered old.stage)
-      (calm : old.idled ≡ true → is_reading stage ≡ true) (accepted : (marks_of old).accepted ≡ true) (post : Post turn e (lost_with old stage request)) where
+      (calm : old.idled ≡ true → is_answered stage ≡ false) (accepted : (marks_of old).accepted ≡ true) (post : Post turn e (lost_with old stage request)) where
     early_then : is_early (lost_with old stage request) ≡ true
     early_then = ap not may.unshut
 
@@ -139,23 +139,31 @@ module _ (Post : Claim) (L : List Item) (ev : Event) (acts : List Act) (turn : T
           lost_as (site_of old) (number_of old) e s.legs old.continued (old.closing || old.closes) old.stage stage answered was;
       children = subst (λ (l : List Act). Deals (site_of old) (number_of old) L ev l e s.over (is_early (lost_with old stage request)) turn n s.legs (ended_run Dropped old.run)) (sym (append-nil acts))
           (subst (λ (b : Bool). Deals (site_of old) (number_of old) L ev acts e s.over b turn n s.legs (ended_run Dropped old.run)) (sym early_then) given_up);
-      bodies = λ f. absurd (false≢true (sym f));
+      memory = λ is shut. absurd (false≢true (sym may.unshut ∙ shut));
+      heard = λ f. absurd (false≢true (sym f));
       inward = record {
         calm = calm;
+        calm_found = λ f. absurd (false≢true (sym f));
         accepted = λ r. accepted;
         lost_in = λ is. accepted;
         decided = λ f. absurd (false≢true (sym f));
         left = λ f. absurd (false≢true (sym f));
         cut_is = λ f. absurd (false≢true (sym f));
         held = λ shut. absurd (false≢true (sym may.unshut ∙ shut));
-        looked = λ f. absurd (false≢true (sym f));
         http = s.inward.http;
         stays = λ f. absurd (false≢true (sym f));
+        closes_is = λ is. answered ∙ s.inward.closes_is is;
+        room = λ f. absurd (false≢true (sym f));
+        asked = s.inward.asked;
+        within = λ f. absurd (false≢true (sym f));
+        past = λ f. absurd (false≢true (sym f));
       };
+      starts_first = s.starts_first;
+      accepted = accepted;
       post = post;
     }
 
-  pub loses : MayLose → (new : Conn) (moves : List Move) → moves ≡ [] → GivesUp old new → (old.idled ≡ true → is_reading new.stage ≡ true)
+  pub loses : MayLose → (new : Conn) (moves : List Move) → moves ≡ [] → GivesUp old new → (old.idled ≡ true → is_answered new.stage ≡ false)
       → (marks_of old).accepted ≡ true → Post turn e (lost_with old new.stage new.request) → Makes Post L ev acts e old n moves new
   loses may new moves none g calm accepted post =
       subst (λ (l : List Move). Makes Post L ev acts e old n l new) (sym none)

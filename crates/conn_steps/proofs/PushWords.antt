@@ -13,23 +13,9 @@ use Rattle.exchange_stage.specs.Items.{is_unanswered}
 use Rattle.exchange_stage.specs.Rules.{IsUnended}
 use Rattle.exchange_stage.specs.StageIs.{StageIs}
 use Rattle.exchange_stage.specs.Unanswered.{IsUnanswered}
-use Rattle.exchange_stage.proofs.BodyStageLaws.{bodies_are_heard}
-use Rattle.conn_steps.specs.Standing.{BodiesAt}
 
 pub bytes_quiet : (c : ℕ) (e : Exchange) (x : Item) → bytes_heard c x ≡ [] → request_bytes c (pushed e x) ≡ request_bytes c e
 bytes_quiet c e x none = request_bytes-push c e x ∙ (ap (λ (l : List ℕ). request_bytes c e ++ l) none ∙ append-nil (request_bytes c e))
-
-pub bodies_quiet : (site : Site) (c : ℕ) (e : Exchange) (x : Item) (s : Stage) → bytes_heard c x ≡ [] → BodiesAt site c e s → BodiesAt site c (pushed e x) s
-bodies_quiet site c e x (At.Unstarted hop request) none b = (bodies_are_heard site c e x request).quiet hop none b
-bodies_quiet site c e x At.Reading none b = tt
-bodies_quiet site c e x (At.Rejected cause bare) none b = tt
-bodies_quiet site c e x (At.Interrupted cause) none b = tt
-bodies_quiet site c e x (At.Refused cause) none b = tt
-bodies_quiet site c e x (At.Starting leg launch body whole) none b = tt
-bodies_quiet site c e x (At.Running leg) none b = tt
-bodies_quiet site c e x (At.Finishing text closes) none b = tt
-bodies_quiet site c e x At.Answered none b = tt
-bodies_quiet site c e x At.Silent none b = tt
 
 -- where nothing of the final answer is written
 pub unanswered_at : (site : Site) (c : ℕ) (e : Exchange) (legs : List Started) (continued looked closing : Bool) (more : List ℕ) (s : Stage)

@@ -1,14 +1,11 @@
 -- What came is looked at.
 use Rattle.std.proofs.Common.{◌≡◌, ◌≤◌, ℕ, inr, Bool, true, false, ◌&&◌, ◌||◌, not, List, [], refl, sym, ap, ◌∙◌, subst, append-nil}
-use Rattle.std.proofs.lemmas.Bool.{and_parts, false≢true, not-false, or_from, or_left}
-use Rattle.host_base.specs.declared.limits.Limits.{Limits}
+use Rattle.std.proofs.lemmas.Bool.{and_parts, false≢true, not-false, not-true, or_from, or_left, or_right}
 use Rattle.host_trace.specs.declared.items.Act.{Act}
 use Rattle.host_trace.specs.declared.items.Event.{Event}
 use Rattle.host_trace.specs.declared.items.Item.{Item}
-use Rattle.host_trace.specs.declared.items.Item.TheVariants.{In}
-use Rattle.request_reader.specs.Request.{is_begun, read_request}
+use Rattle.request_reader.specs.Request.{is_begun}
 use Rattle.trace_model.specs.Exchange.{Exchange, request_bytes}
-use Rattle.trace_model.specs.Readings.{startable}
 use Rattle.exchange_request.specs.declared.found.Found.{Found}
 use Rattle.exchange_request.specs.declared.found.Found.TheVariants as Seen
 use Rattle.exchange_request.specs.declared.incoming.Incoming.{Incoming}
@@ -16,7 +13,6 @@ use Rattle.exchange_request.specs.Knows.{Finds, is_looked_at, is_taken, limits_o
 use Rattle.exchange_stage.specs.declared.stage.Stage.{Stage}
 use Rattle.exchange_stage.specs.declared.stage.Stage.TheVariants as At
 use Rattle.exchange_stage.specs.Rules.{IsUnended}
-use Rattle.exchange_stage.proofs.BodyStageLaws.{bodies_are_heard}
 use Rattle.exchange_stage.proofs.ReasonParts.{no_more}
 use Rattle.conn_marks.specs.Form.{are_given}
 use Rattle.conn_children.specs.Step.{Turn}
@@ -31,9 +27,12 @@ use Rattle.conn_core.specs.Reasons.{is_done_with}
 use Rattle.conn_core.specs.Settles.{is_answered}
 use Rattle.conn_core.specs.Slot.{run_settled}
 use Rattle.conn_stages.specs.Staged.{Staged}
+use Rattle.conn_stages.specs.HeardStages.{HasHeard}
+use Rattle.conn_stages.proofs.HeardOffers.{looks_are_heard}
 use Rattle.conn_stages.proofs.LookLaws.{looks_staged}
-use Rattle.conn_core.specs.Parts.{LooksAt, Loses, Nothing, Or, Part, ReadsBy, ReadsOn, the_one, the_other}
-use Rattle.conn_steps.specs.Standing.{Apt, AptAt, BodiesAt, CutIs, Leaves, Makes, Read, Standing, Within, ends_at, is_running}
+use Rattle.conn_core.specs.Parts.{LooksAt, Loses, LosesLook, Nothing, Or, Part, ReadsBy, ReadsOn, the_one, the_other}
+use Rattle.conn_stages.specs.Inward.{CutIs, is_running}
+use Rattle.conn_steps.specs.Standing.{Apt, AptAt, Leaves, Makes, Read, Standing, Within, ends_at}
 use Rattle.conn_steps.proofs.EndWords.{Going, accepted_of, ends_is, goes, going, unclosed_of, unshut_of}
 use Rattle.conn_steps.proofs.LossLaws.{lost_with, loses, over_lost, posts_lost}
 use Rattle.conn_steps.proofs.StageWords.{free_lost, unwhole}
@@ -52,16 +51,20 @@ is_at_reading At.Answered e = absurd (false≢true e)
 is_at_reading At.Silent e = absurd (false≢true e)
 
 module _ (L : List Item) (ev : Event) (acts : List Act) (turn : Turn) (e : Exchange) (old : Conn) (n : ℕ) (s : Standing L ev acts turn n e old) (two : 2 ≤ (site_of old).limits.head)
-    (apt : Apt e old) (free : may_lose turn old.run ≡ true) (g : Going old (is_done_with old (request_bytes (number_of old) e))) (at : old.stage ≡ At.Reading) where
+    (apt : Apt e old) (free : may_lose turn old.run ≡ true) (g : Going old (is_done_with old (request_bytes (number_of old) e))) (at : old.stage ≡ At.Reading) (unread : is_looked_at old.request ≡ false) where
   abbrev bytes : List ℕ
   bytes = request_bytes (number_of old) e
 
   unanswered : is_answered old.stage ≡ false
   unanswered = ap is_answered at
 
+  -- nobody was asked for more while bytes wait that nobody has looked at
+  none_within : ((marks_of old).asked || (marks_of old).ended) ≡ true → ⊥
+  none_within either = false≢true (sym unread ∙ (s.inward.within g.found g.open_yet either).looked (ap is_reading at))
+
   -- this was found, and this is the request then
   module _ (stage : Stage) (request : Incoming) (staged : Staged (record old { request = request; stage = stage }) e s.legs)
-      (cut : CutIs stage (outcome_of_run old.run) old.cut) (bodies : BodiesAt (site_of old) (number_of old) e stage) (apt_at : AptAt (record old { request = request; stage = stage }) e stage)
+      (cut : CutIs stage (outcome_of_run old.run) old.cut) (heard : HasHeard (record old { request = request; stage = stage }) e) (apt_at : AptAt (record old { request = request; stage = stage }) e stage)
       (looked : is_looked_at request ≡ true) (undone : is_done_with (record old { request = request; stage = stage }) bytes ≡ false) (none : is_answered stage ≡ false) where
     abbrev mid : Conn
     mid = record old { request = request; stage = stage }
@@ -88,20 +91,28 @@ module _ (L : List Item) (ev : Event) (acts : List Act) (turn : Turn) (e : Excha
       legs = s.legs;
       staged = λ f. staged;
       lost = λ is. absurd (false≢true (sym g.found ∙ is));
+      memory = λ is. absurd (false≢true (sym g.found ∙ is));
       children = subst (λ (l : List Act). Deals (site_of old) (number_of old) L ev l e s.over (old.lost && not (marks_of old).shut) turn n s.legs old.run) (sym (append-nil acts)) s.children;
-      bodies = λ f. bodies;
+      heard = λ f. heard;
       inward = record {
         calm = λ idle. absurd (false≢true (sym g.calm ∙ idle));
+        calm_found = λ found idle. absurd (false≢true (sym g.calm ∙ idle));
         accepted = λ r. accepted_of old (is_done_with old bytes) g;
         cut_is = λ f. cut;
         held = λ shut. absurd (false≢true (sym (unshut_of old (is_done_with old bytes) g) ∙ shut));
-        looked = λ f r. or_left _ _ looked;
         http = s.inward.http;
         lost_in = λ is. absurd (false≢true (sym g.found ∙ is));
         decided = λ f r. s.inward.decided g.found (ap is_running at);
         left = s.inward.left;
         stays = λ f unshut ends. absurd (false≢true (sym (or_from _ _ g.unstopped g.here) ∙ ends));
+        closes_is = λ is. absurd (false≢true (sym g.unclosed ∙ is));
+        room = s.inward.room;
+        asked = s.inward.asked;
+        within = λ f open_yet either. absurd (none_within either);
+        past = λ f open_yet unshut is. absurd (none_within (or_right (marks_of old).asked (marks_of old).ended is));
       };
+      starts_first = s.starts_first;
+      accepted = accepted_of old (is_done_with old bytes) g;
       post = (
         refl,
         free,
@@ -115,23 +126,22 @@ module _ (L : List Item) (ev : Event) (acts : List Act) (turn : Turn) (e : Excha
       );
     }
 
-  by_found : (new : Conn) (seen : Found) → Staged new e s.legs → LooksTo seen old new → limits_of new.request ≡ (site_of old).limits → Finds bytes seen new.request
+  by_found : (new : Conn) (seen : Found) → Staged new e s.legs → HasHeard new e → LooksTo seen old new → limits_of new.request ≡ (site_of old).limits → Finds bytes seen new.request
       → Makes (Within turn Read) L ev acts e old n [] new
-  by_found new Seen.More staged to limits f =
+  by_found new Seen.More staged heard to limits f =
       let is : new ≡ record old { request = new.request; stage = At.Reading } = to ∙ ap (λ (t : Stage). record old { request = new.request; stage = t }) at in
       subst (λ (c : Conn). Makes (Within turn Read) L ev acts e old n [] c) (sym is)
-      (found_as At.Reading new.request (subst (λ (c : Conn). Staged c e s.legs) is staged) g.uncut tt tt f.looked undone refl)
+      (found_as At.Reading new.request (subst (λ (c : Conn). Staged c e s.legs) is staged) g.uncut (subst (λ (c : Conn). HasHeard c e) is heard) tt f.looked undone refl)
     where
       undone : ((marks_of old).ended && true && not (is_begun bytes)) ≡ false
       undone = ap (λ (t : Stage). (marks_of old).ended && is_reading t && not (is_begun bytes)) (sym at) ∙ g.undone
-  by_found new (Seen.Ready request) staged to limits f =
+  by_found new (Seen.Ready request) staged heard to limits f =
       subst (λ (c : Conn). Makes (Within turn Read) L ev acts e old n [] c) (sym to)
-      (found_as (At.Unstarted 0 request) new.request (subst (λ (c : Conn). Staged c e s.legs) to staged) g.uncut
-      ((bodies_are_heard (site_of old) (number_of old) e (In ev) request).found (ap (λ (l : Limits). startable (read_request l bytes)) (sym limits) ∙ f.is)) tt f.looked
+      (found_as (At.Unstarted 0 request) new.request (subst (λ (c : Conn). Staged c e s.legs) to staged) g.uncut (subst (λ (c : Conn). HasHeard c e) to heard) tt f.looked
       (no_more (marks_of old).ended (not (is_begun bytes))) refl)
-  by_found new (Seen.Refused cause bare) staged to limits f =
+  by_found new (Seen.Refused cause bare) staged heard to limits f =
       subst (λ (c : Conn). Makes (Within turn Read) L ev acts e old n [] c) (sym to)
-      (found_as (At.Rejected cause bare) new.request (subst (λ (c : Conn). Staged c e s.legs) to staged) g.uncut tt tt f.looked
+      (found_as (At.Rejected cause bare) new.request (subst (λ (c : Conn). Staged c e s.legs) to staged) g.uncut (subst (λ (c : Conn). HasHeard c e) to heard) tt f.looked
       (no_more (marks_of old).ended (not (is_begun bytes))) refl)
 
   -- it was looked at, or memory was wanting
@@ -141,7 +151,7 @@ module _ (L : List Item) (ev : Event) (acts : List Act) (turn : Turn) (e : Excha
       let h : IsHeard old.request (is_reading old.stage) bytes = s.front.request g.found unclosed in
       let staged : Staged new e s.legs = looks_staged old new e s.legs s.front (s.staged g.found) g.found unclosed (inr l.looked) in
       subst (λ (m : List Move). Makes (Within turn Read) L ev acts e old n m new) (sym l.none)
-      (by_found new l.looked.found staged l.looked.to (l.looked.limits ∙ s.front.limits)
+      (by_found new l.looked.found staged (looks_are_heard old new e s.front g.found unclosed (s.heard g.found) (inr l.looked)) l.looked.to (l.looked.limits ∙ s.front.limits)
       (l.looked.finds bytes (unready_none old.request bytes h.taken (h.unready l.looked.reading) h.knows) (h.unready l.looked.reading)))
 
   loses_make : (new : Conn) (moves : List Move) → Loses old n moves new → Makes (Within turn Read) L ev acts e old n moves new
@@ -169,7 +179,7 @@ module _ (L : List Item) (ev : Event) (acts : List Act) (turn : Turn) (e : Excha
       found = (going old (is_done_with old (request_bytes (number_of old) e)) (sym is)).found
 
       by_stage : (b : Bool) → is_reading old.stage ≡ b → (is_looked_at old.request || is_taken old.request) ≡ true
-      by_stage false r = s.inward.looked found r
+      by_stage false r = (s.heard found).looked r
       by_stage true r =
           or_left _ _ (not-false (is_looked_at old.request) (sym (ap (λ (b : Bool). b && not (is_looked_at old.request)) r) ∙ test))
   by_tests false true is test moves new p form by = leaves_made ReadsOn (Within turn Read) L ev acts turn e old new n moves s p form (made by)
@@ -180,9 +190,12 @@ module _ (L : List Item) (ev : Event) (acts : List Act) (turn : Turn) (e : Excha
       at : old.stage ≡ At.Reading
       at = is_at_reading old.stage (and_parts (is_reading old.stage) (not (is_looked_at old.request)) test).0
 
-      made : Or LooksAt Loses old n moves new → Makes (Within turn Read) L ev acts e old n moves new
-      made (the_one l) = looks_make L ev acts turn e old n s two apt free g at new moves l
-      made (the_other l) = loses_make L ev acts turn e old n s two apt free g at new moves l
+      unlooked : is_looked_at old.request ≡ false
+      unlooked = not-true (is_looked_at old.request) (and_parts (is_reading old.stage) (not (is_looked_at old.request)) test).1
+
+      made : Or LooksAt LosesLook old n moves new → Makes (Within turn Read) L ev acts e old n moves new
+      made (the_one l) = looks_make L ev acts turn e old n s two apt free g at unlooked new moves l
+      made (the_other l) = loses_make L ev acts turn e old n s two apt free g at unlooked new moves l.loses
 
   pub reads_leave : (moves : List Move) (new : Conn) → Part ReadsOn old n moves new → are_given (marks_of old) (acts_of moves) ≡ true → Leaves (Within turn Read) L ev acts e old n moves new
   reads_leave moves new p form =

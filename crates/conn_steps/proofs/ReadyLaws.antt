@@ -1,5 +1,5 @@
 -- What is due of an answer is made ready.
-use Rattle.std.proofs.Common.{◌≡◌, ℕ, suc, Bool, true, false, ◌&&◌, not, if◌then◌else◌, List, [], ◌∷◌, ◌++◌, Option, Some, None, is_some, refl, sym, ap, ◌∙◌, subst, append-nil}
+use Rattle.std.proofs.Common.{◌≡◌, ℕ, suc, Bool, true, false, ◌&&◌, not, if◌then◌else◌, List, [], ◌∷◌, ◌++◌, Option, Some, None, refl, sym, ap, ◌∙◌, subst, append-nil, inl}
 use Rattle.std.specs.Prelude.{nat_le}
 use Rattle.std.proofs.lemmas.Bool.{false≢true, or_from}
 use Rattle.host_base.specs.declared.cause.Cause.{Cause}
@@ -15,13 +15,13 @@ use Rattle.reply_stream.specs.declared.stream.Last.TheVariants as Ended
 use Rattle.request_reader.specs.Request.{is_begun}
 use Rattle.child_core.specs.declared.ending.Outcome.{Outcome}
 use Rattle.child_core.specs.declared.ending.Outcome.TheVariants.{Dropped, Failed, Gone, Output, Stopped}
-use Rattle.child_core.specs.Calls.{drained}
 use Rattle.child_core.specs.View.{View}
 use Rattle.trace_model.specs.Answer.{request_of_hop}
 use Rattle.trace_model.specs.Exchange.{Exchange, request_bytes}
 use Rattle.exchange_stage.specs.declared.stage.Leg.{Leg}
 use Rattle.exchange_stage.specs.declared.stage.Stage.{Stage}
 use Rattle.exchange_stage.specs.declared.stage.Stage.TheVariants as At
+use Rattle.exchange_stage.specs.Bodies.{HasBody}
 use Rattle.exchange_stage.proofs.ReasonParts.{no_more}
 use Rattle.conn_children.specs.Step.{Turn}
 use Rattle.conn_children.specs.Moves.{Deals, may_lose}
@@ -30,44 +30,18 @@ use Rattle.conn_front.specs.Moves.{Move}
 use Rattle.conn_core.specs.declared.conn.Conn.{Conn}
 use Rattle.conn_core.specs.Begins.{ByOutcome, ReadiesAnswer, silenced}
 use Rattle.conn_core.specs.Kept.{is_reading, marks_of, number_of, site_of}
-use Rattle.conn_core.specs.Ready.{BreaksBy, EndsWith, drained_run, outcome_of_run, undrained}
+use Rattle.conn_core.specs.Ready.{BreaksBy, EndsWith, outcome_of_run}
 use Rattle.conn_core.specs.Reasons.{is_done_with}
 use Rattle.conn_core.specs.Settles.{is_answered}
 use Rattle.conn_core.specs.Slot.{run_settled}
 use Rattle.conn_stages.specs.Staged.{Staged}
 use Rattle.conn_stages.proofs.StagedLaws.{answers_staged}
 use Rattle.conn_core.specs.Parts.{MakesReady}
-use Rattle.conn_steps.specs.Standing.{BodiesAt, CutBy, CutIs, IsDecided, LetOn, Makes, Ready, ReadyAt, Standing, Within, ends_at, gives_at, is_left, is_running}
+use Rattle.conn_stages.specs.Inward.{CutBy, CutIs, IsDecided, IsPast, is_left, is_running}
+use Rattle.conn_steps.specs.Standing.{LetOn, Makes, Ready, ReadyAt, Standing, Within, ends_at, gives_at}
+use Rattle.conn_steps.proofs.BodyWords.{no_script_waits, one_waits}
 use Rattle.conn_steps.proofs.EndWords.{Going, accepted_of, goes, going, unshut_of}
-use Rattle.conn_steps.proofs.ReadyWords.{apt_at, may_answer, unawaited_now}
-use Rattle.conn_steps.proofs.StageWords.{free_same}
-
-abbrev drained_by : Bool → Option View → Option View
-drained_by false run = run
-drained_by true run = drained_run run
-
-free_drained : (turn : Turn) (drains : Bool) (run : Option View) → may_lose turn run ≡ true → may_lose turn (drained_by drains run) ≡ true
-free_drained turn false run free = free
-free_drained turn true None free = free
-free_drained turn true (Some v) free = free_same turn v (drained v) refl free
-
-undrained_none : (run : Option View) → undrained (drained_run run) ≡ []
-undrained_none None = refl
-undrained_none (Some v) = refl
-
-outcome_drained : (drains : Bool) (run : Option View) → outcome_of_run (drained_by drains run) ≡ outcome_of_run run
-outcome_drained false run = refl
-outcome_drained true None = refl
-outcome_drained true (Some v) = refl
-
-decided_drained : (drains : Bool) (run : Option View) → IsDecided run → IsDecided (drained_by drains run)
-decided_drained false run d = d
-decided_drained true None d = d
-decided_drained true (Some v) d = d
-
-decided_by : (run : Option View) (o : Outcome) → outcome_of_run run ≡ Some o → IsDecided run
-decided_by None o is = tt
-decided_by (Some v) o is = ap is_some is
+use Rattle.conn_steps.proofs.ReadyWords.{apt_at, decided_by, decided_drained, drained_by, free_drained, may_answer, outcome_drained, unawaited_now, undrained_none}
 
 module _ (L : List Item) (ev : Event) (acts : List Act) (turn : Turn) (e : Exchange) (old : Conn) (n : ℕ) (s : Standing L ev acts turn n e old) (on_let : LetOn e old)
     (free : may_lose turn old.run ≡ true) (on : ends_at old e ≡ false) (stamp : Option ℕ) (clock : stamp ≡ last_secs (L ++ In ev ∷ [])) where
@@ -85,8 +59,9 @@ module _ (L : List Item) (ev : Event) (acts : List Act) (turn : Turn) (e : Excha
 
   -- this is its stage then
   module _ (stage : Stage) (drains : Bool) (cut : Option Cause) (staged : Staged (record old { run = drained_by drains old.run; cut = cut; stage = stage }) e s.legs)
-      (cut_is : CutIs stage (outcome_of_run old.run) cut) (bodies : BodiesAt (site_of old) (number_of old) e stage)
-      (at : ReadyAt (record old { run = drained_by drains old.run; cut = cut; stage = stage }) e stage) (uncut : gives_at stage ≡ true → cut ≡ None) (reads : is_reading stage ≡ false) (none : is_answered stage ≡ false) (decided : is_running stage ≡ false → IsDecided old.run) where
+      (cut_is : CutIs stage (outcome_of_run old.run) cut) (bodies : (hop : ℕ) (request : Request) → stage ≡ At.Unstarted hop request → HasBody (site_of old) (number_of old) e hop request)
+      (at : ReadyAt (record old { run = drained_by drains old.run; cut = cut; stage = stage }) e stage) (uncut : gives_at stage ≡ true → cut ≡ None) (reads : is_reading stage ≡ false) (none : is_answered stage ≡ false) (decided : is_running stage ≡ false → IsDecided old.run)
+      (past : IsPast old.stage old.run → IsPast stage (drained_by drains old.run)) where
     abbrev mid : Conn
     mid = record old { run = drained_by drains old.run; cut = cut; stage = stage }
 
@@ -115,21 +90,29 @@ module _ (L : List Item) (ev : Event) (acts : List Act) (turn : Turn) (e : Excha
       legs = s.legs;
       staged = λ f. staged;
       lost = λ is. absurd (false≢true (sym g.found ∙ is));
+      memory = λ is. absurd (false≢true (sym g.found ∙ is));
       children = subst (λ (l : List Act). Deals (site_of old) (number_of old) L ev l e s.over (old.lost && not (marks_of old).shut) turn n s.legs (drained_by drains old.run)) (sym (append-nil acts))
           (deals_drained drains old.run s.children);
-      bodies = λ f. bodies;
+      heard = λ f. record { bodies = bodies; looked = λ r. on_let.read.looked f on; handed = (s.heard f).handed };
       inward = record {
         calm = λ idle. absurd (false≢true (sym g.calm ∙ idle));
+        calm_found = λ found idle. absurd (false≢true (sym g.calm ∙ idle));
         accepted = λ r. accepted_of old (is_done_with old bytes) g;
         cut_is = λ f. subst (λ (o : Option Outcome). CutIs stage o cut) (sym (outcome_drained drains old.run)) cut_is;
         held = λ shut. absurd (false≢true (sym (unshut_of old (is_done_with old bytes) g) ∙ shut));
-        looked = λ f r. on_let.read.looked f on;
         http = s.inward.http;
         lost_in = λ is. absurd (false≢true (sym g.found ∙ is));
         decided = λ f r. decided_drained drains old.run (decided r);
         left = λ f is. s.inward.left g.found (sym (ap is_left (outcome_drained drains old.run)) ∙ is);
         stays = λ f unshut ends. absurd (false≢true (sym (or_from _ _ g.unstopped g.here) ∙ ends));
+        closes_is = λ is. absurd (false≢true (sym g.unclosed ∙ is));
+        room = s.inward.room;
+        asked = s.inward.asked;
+        within = λ f open_yet either. record { untaken = (s.inward.within f open_yet either).untaken; looked = λ r. absurd (false≢true (sym reads ∙ r)) };
+        past = λ f open_yet unshut is. past (s.inward.past f open_yet unshut is);
       };
+      starts_first = s.starts_first;
+      accepted = accepted_of old (is_done_with old bytes) g;
       post = (
         refl,
         free_drained turn drains old.run free,
@@ -153,9 +136,12 @@ module _ (L : List Item) (ev : Event) (acts : List Act) (turn : Turn) (e : Excha
     legs = s.legs;
     staged = s.staged;
     lost = s.lost;
+    memory = λ is shut. inl (is, shut);
     children = subst (λ (l : List Act). Deals (site_of old) (number_of old) L ev l e s.over (old.lost && not (marks_of old).shut) turn n s.legs old.run) (sym (append-nil acts)) s.children;
-    bodies = s.bodies;
+    heard = s.heard;
     inward = s.inward;
+    starts_first = s.starts_first;
+    accepted = accepted_of old (is_done_with old bytes) g;
     post = (
       refl,
       free,
@@ -176,16 +162,19 @@ module _ (L : List Item) (ev : Event) (acts : List Act) (turn : Turn) (e : Excha
     finishing : (text : List ℕ) (closes : Bool) → IsDecided old.run → new ≡ record old { stage = At.Finishing text closes } → Makes (Within turn Ready) L ev acts e old n [] new
     finishing text closes d is =
         subst (λ (c : Conn). Makes (Within turn Ready) L ev acts e old n [] c) (sym is)
-        (ready_as (At.Finishing text closes) false old.cut (subst (λ (c : Conn). Staged c e s.legs) is staged_new) g.uncut tt tt (λ given. g.uncut) refl refl (λ r. d))
+        (ready_as (At.Finishing text closes) false old.cut (subst (λ (c : Conn). Staged c e s.legs) is staged_new) g.uncut
+        (no_script_waits (site_of old) (number_of old) e (At.Finishing text closes) refl) tt (λ given. g.uncut) refl refl (λ r. d) (λ p. tt))
 
     to_hop : (b : Bool) (hop : ℕ) (request : Request) (location : List ℕ) → IsDecided old.run
         → new ≡ record old { stage = if b then At.Refused RedirectLoop else At.Unstarted (suc hop) (request_of_hop request location) } → Makes (Within turn Ready) L ev acts e old n [] new
     to_hop true hop request location d is =
         subst (λ (c : Conn). Makes (Within turn Ready) L ev acts e old n [] c) (sym is)
-        (ready_as (At.Refused RedirectLoop) false old.cut (subst (λ (c : Conn). Staged c e s.legs) is staged_new) g.uncut tt tt (λ given. g.uncut) refl refl (λ r. d))
+        (ready_as (At.Refused RedirectLoop) false old.cut (subst (λ (c : Conn). Staged c e s.legs) is staged_new) g.uncut
+        (no_script_waits (site_of old) (number_of old) e (At.Refused RedirectLoop) refl) tt (λ given. g.uncut) refl refl (λ r. d) (λ p. tt))
     to_hop false hop request location d is =
         subst (λ (c : Conn). Makes (Within turn Ready) L ev acts e old n [] c) (sym is)
-        (ready_as (At.Unstarted (suc hop) (request_of_hop request location)) false old.cut (subst (λ (c : Conn). Staged c e s.legs) is staged_new) g.uncut refl tt (λ given. g.uncut) refl refl (λ r. d))
+        (ready_as (At.Unstarted (suc hop) (request_of_hop request location)) false old.cut (subst (λ (c : Conn). Staged c e s.legs) is staged_new) g.uncut
+        (one_waits (site_of old) (number_of old) e (suc hop) (request_of_hop request location) refl) tt (λ given. g.uncut) refl refl (λ r. d) (λ p zero_is. cc))
 
     concluded : (leg : Leg) (closes_now : Bool) (last : Last) → IsDecided old.run → EndsWith leg closes_now stamp (silenced old) new last → Makes (Within turn Ready) L ev acts e old n [] new
     concluded leg closes_now (Ended.Written text) d w = finishing text w.0 d w.2
@@ -200,31 +189,33 @@ module _ (L : List Item) (ev : Event) (acts : List Act) (turn : Turn) (e : Excha
         → Makes (Within turn Ready) L ev acts e old n [] new
     broke leg cause closes true failed is =
         subst (λ (c : Conn). Makes (Within turn Ready) L ev acts e old n [] c) (sym is)
-        (ready_as At.Silent false (Some cause) (subst (λ (c : Conn). Staged c e s.legs) is staged_new) (subst (λ (o : Option Outcome). CutBy o (Some cause)) (sym failed) refl) tt tt
-        (λ given. absurd (false≢true given)) refl refl (λ r. decided_by old.run (Failed cause) failed))
+        (ready_as At.Silent false (Some cause) (subst (λ (c : Conn). Staged c e s.legs) is staged_new) (subst (λ (o : Option Outcome). CutBy o (Some cause)) (sym failed) refl) (no_script_waits (site_of old) (number_of old) e (At.Silent) refl) tt
+        (λ given. absurd (false≢true given)) refl refl (λ r. decided_by old.run (Failed cause) failed) (λ p. tt))
     broke leg cause closes false failed by = finishing by.0 closes (decided_by old.run (Failed cause) failed) by.1
 
     fell_silent : (o : Outcome) → CutBy (Some o) old.cut → outcome_of_run old.run ≡ Some o → new ≡ silenced old → Makes (Within turn Ready) L ev acts e old n [] new
     fell_silent o cut is same =
         subst (λ (c : Conn). Makes (Within turn Ready) L ev acts e old n [] c) (sym same)
-        (ready_as At.Silent false old.cut (subst (λ (c : Conn). Staged c e s.legs) same staged_new) (subst (λ (p : Option Outcome). CutBy p old.cut) (sym is) cut) tt tt
-        (λ given. absurd (false≢true given)) refl refl (λ r. decided_by old.run o is))
+        (ready_as At.Silent false old.cut (subst (λ (c : Conn). Staged c e s.legs) same staged_new) (subst (λ (p : Option Outcome). CutBy p old.cut) (sym is) cut) (no_script_waits (site_of old) (number_of old) e (At.Silent) refl) tt
+        (λ given. absurd (false≢true given)) refl refl (λ r. decided_by old.run o is) (λ p. tt))
 
-    by_outcome : (leg : Leg) (o : Option Outcome) → outcome_of_run old.run ≡ o → ByOutcome o leg stamp (silenced old) new → Makes (Within turn Ready) L ev acts e old n [] new
-    by_outcome leg None is t =
+    by_outcome : (leg : Leg) → old.stage ≡ At.Running leg → (o : Option Outcome) → outcome_of_run old.run ≡ o → ByOutcome o leg stamp (silenced old) new → Makes (Within turn Ready) L ev acts e old n [] new
+    by_outcome leg at None is t =
         subst (λ (c : Conn). Makes (Within turn Ready) L ev acts e old n [] c) (sym t.is)
-        (ready_as (At.Running (record leg { reply = t.reply; ticked = false; text = t.text })) true old.cut (subst (λ (c : Conn). Staged c e s.legs) t.is staged_new) g.uncut tt
-        (outcome_drained true old.run ∙ is, undrained_none old.run, refl) (λ given. g.uncut) refl refl (λ r. absurd (false≢true (sym r))))
-    by_outcome leg (Some Output) is con = concluded leg con.closes_now con.last (decided_by old.run Output is) con.with
-    by_outcome leg (Some (Failed cause)) is b = broke leg cause b.closes b.begun is b.by
-    by_outcome leg (Some Gone) is same = fell_silent Gone g.uncut is same
-    by_outcome leg (Some Stopped) is same = fell_silent Stopped g.uncut is same
-    by_outcome leg (Some Dropped) is same = fell_silent Dropped g.uncut is same
+        (ready_as (At.Running (record leg { reply = t.reply; ticked = false; text = t.text })) true old.cut (subst (λ (c : Conn). Staged c e s.legs) t.is staged_new) g.uncut
+        (no_script_waits (site_of old) (number_of old) e (At.Running (record leg { reply = t.reply; ticked = false; text = t.text })) refl)
+        (outcome_drained true old.run ∙ is, undrained_none old.run, refl) (λ given. g.uncut) refl refl (λ r. absurd (false≢true (sym r)))
+        (λ p first. decided_drained true old.run (subst (λ (t : Stage). IsPast t old.run) at p first)))
+    by_outcome leg at (Some Output) is con = concluded leg con.closes_now con.last (decided_by old.run Output is) con.with
+    by_outcome leg at (Some (Failed cause)) is b = broke leg cause b.closes b.begun is b.by
+    by_outcome leg at (Some Gone) is same = fell_silent Gone g.uncut is same
+    by_outcome leg at (Some Stopped) is same = fell_silent Stopped g.uncut is same
+    by_outcome leg at (Some Dropped) is same = fell_silent Dropped g.uncut is same
 
     by_stage : (t : Stage) → old.stage ≡ t → ReadiesAnswer t stamp old new → Makes (Within turn Ready) L ev acts e old n [] new
     by_stage (At.Rejected cause bare) at f = finishing f.text true (s.inward.decided g.found (ap is_running at)) f.is
     by_stage (At.Interrupted cause) at f = finishing f.text true (s.inward.decided g.found (ap is_running at)) f.is
-    by_stage (At.Running leg) at by = by_outcome leg (outcome_of_run old.run) refl by
+    by_stage (At.Running leg) at by = by_outcome leg at (outcome_of_run old.run) refl by
     by_stage At.Reading at same = unchanged At.Reading at tt same
     by_stage (At.Refused cause) at same = unchanged (At.Refused cause) at tt same
     by_stage (At.Unstarted hop request) at same = unchanged (At.Unstarted hop request) at tt same

@@ -1,5 +1,5 @@
 -- What is known before an answer is made ready.
-use Rattle.std.proofs.Common.{◌≡◌, ◌<◌, ◌^◌, ℕ, Bool, true, false, ◌||◌, List, [], ◌∷◌, ◌++◌, map, length, Option, Some, None, refl, sym, ap, ◌∙◌, subst, append-nil}
+use Rattle.std.proofs.Common.{◌≡◌, ◌<◌, ◌^◌, ℕ, Bool, true, false, ◌||◌, List, [], ◌∷◌, ◌++◌, map, length, Option, Some, None, is_some, refl, sym, ap, ◌∙◌, subst, append-nil}
 use Rattle.std.specs.List.{flat_map}
 use Rattle.std.proofs.lemmas.Grind.{flat_map-append}
 use Rattle.host_base.specs.declared.site.Site.{Site}
@@ -10,6 +10,8 @@ use Rattle.host_trace.specs.declared.items.Item.TheVariants.{In, Out}
 use Rattle.host_trace.specs.First.{last_of}
 use Rattle.host_trace.specs.Kinds.{tick_secs}
 use Rattle.host_trace.specs.Projections.{child_out, last_secs}
+use Rattle.child_core.specs.declared.ending.Outcome.{Outcome}
+use Rattle.child_core.specs.Calls.{drained}
 use Rattle.child_core.specs.View.{View}
 use Rattle.trace_model.specs.Exchange.{Exchange}
 use Rattle.trace_model.specs.Legs.{Leg as Started}
@@ -17,22 +19,51 @@ use Rattle.exchange_request.specs.Knows.{is_looked_at}
 use Rattle.exchange_reply.specs.StepRules.{is_continued}
 use Rattle.exchange_stage.specs.declared.stage.Stage.{Stage}
 use Rattle.exchange_stage.specs.declared.stage.Stage.TheVariants as At
-use Rattle.exchange_stage.specs.Items.{is_unanswered}
 use Rattle.exchange_stage.specs.Moves.{IsShort}
-use Rattle.exchange_stage.specs.StageIs.{StageIs}
 use Rattle.exchange_stage.specs.Unanswered.{is_awaited}
-use Rattle.exchange_stage.proofs.WholeLaws.{continues_come_first, continues_stand}
+use Rattle.exchange_stage.proofs.WholeLaws.{continues_stand}
 use Rattle.conn_children.specs.Children.{KnowsChildren}
+use Rattle.conn_children.specs.Moves.{may_lose}
 use Rattle.conn_children.specs.Step.{Turn}
 use Rattle.conn_children.proofs.KnowLaws.{tells_last}
 use Rattle.conn_core.specs.declared.conn.Conn.{Conn}
 use Rattle.conn_core.specs.Kept.{number_of, site_of}
-use Rattle.conn_core.specs.Ready.{outcome_of_run}
+use Rattle.conn_core.specs.Ready.{drained_run, outcome_of_run, undrained}
+use Rattle.conn_stages.specs.Inward.{IsDecided}
 use Rattle.conn_stages.specs.Staged.{MayAnswer, MayReady}
 use Rattle.conn_stages.proofs.StagedLaws.{no_last}
 use Rattle.conn_steps.specs.Standing.{AptAt, LetOn, ShortRun, Standing, ends_at}
 use Rattle.conn_steps.proofs.EndWords.{going, unclosed_of}
-use Rattle.conn_steps.proofs.StageWords.{known, more_in, stage_is}
+use Rattle.conn_steps.proofs.StageWords.{first_unawaited, free_same, known, more_in, stage_is}
+
+-- ---- the output that was handed on
+
+abbrev pub drained_by : Bool → Option View → Option View
+drained_by false run = run
+drained_by true run = drained_run run
+
+pub free_drained : (turn : Turn) (drains : Bool) (run : Option View) → may_lose turn run ≡ true → may_lose turn (drained_by drains run) ≡ true
+free_drained turn false run free = free
+free_drained turn true None free = free
+free_drained turn true (Some v) free = free_same turn v (drained v) refl free
+
+pub undrained_none : (run : Option View) → undrained (drained_run run) ≡ []
+undrained_none None = refl
+undrained_none (Some v) = refl
+
+pub outcome_drained : (drains : Bool) (run : Option View) → outcome_of_run (drained_by drains run) ≡ outcome_of_run run
+outcome_drained false run = refl
+outcome_drained true None = refl
+outcome_drained true (Some v) = refl
+
+pub decided_drained : (drains : Bool) (run : Option View) → IsDecided run → IsDecided (drained_by drains run)
+decided_drained false run d = d
+decided_drained true None d = d
+decided_drained true (Some v) d = d
+
+pub decided_by : (run : Option View) (o : Outcome) → outcome_of_run run ≡ Some o → IsDecided run
+decided_by None o is = tt
+decided_by (Some v) o is = ap is_some is
 
 -- ---- the clock
 
@@ -59,13 +90,7 @@ short_of site c e n legs (Some v) k short none leg last =
 module _ (L : List Item) (ev : Event) (acts : List Act) (turn : Turn) (e : Exchange) (old : Conn) (n : ℕ) (s : Standing L ev acts turn n e old) (on_let : LetOn e old) (found : old.lost ≡ false)
     (on : ends_at old e ≡ false) where
   pub unawaited_now : old.continued ≡ false → is_awaited (site_of old) (number_of old) e ≡ false
-  unawaited_now first = go (is_unanswered old.stage) refl
-    where
-      go : (b : Bool) → is_unanswered old.stage ≡ b → is_awaited (site_of old) (number_of old) e ≡ false
-      go true is = on_let.none found is first
-      go false is =
-          continues_come_first (site_of old) (number_of old) e s.legs (is_looked_at old.request) (old.closing || old.closes) (more_in old e s.legs (s.staged found)) old.stage
-          (subst (λ (b : Bool). StageIs (site_of old) (number_of old) e s.legs b (is_looked_at old.request) (old.closing || old.closes) (more_in old e s.legs (s.staged found)) old.stage) first (stage_is old e s.legs (s.staged found))) is
+  unawaited_now first = first_unawaited old e s.legs (s.staged found) (λ is. on_let.none found is first) first
 
   pub continued_now : is_continued (site_of old) (number_of old) e ≡ true
   continued_now =

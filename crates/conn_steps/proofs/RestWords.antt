@@ -48,11 +48,12 @@ use Rattle.conn_core.specs.Ready.{outcome_of_run}
 use Rattle.conn_core.specs.Reasons.{is_done_with}
 use Rattle.conn_core.specs.Slot.{run_settled}
 use Rattle.conn_stages.proofs.StagedLaws.{outcome_told}
-use Rattle.conn_steps.specs.Standing.{CutBy, CutIs, EvenAt, QuietBy, RunQuiet, Standing, ends_at, is_early, is_left}
+use Rattle.conn_stages.specs.Inward.{CutBy, CutIs, is_left}
+use Rattle.conn_steps.specs.Standing.{EvenAt, QuietBy, RunQuiet, Standing, ends_at, is_early}
 use Rattle.conn_core.specs.Tells.{goes_at, has_turn}
 use Rattle.conn_steps.proofs.CloseLaws.{Closed}
 use Rattle.conn_steps.proofs.EndWords.{Going, going, live_of}
-use Rattle.conn_steps.proofs.ServedLaws.{quiet_goes_on}
+use Rattle.conn_steps.proofs.QuietWords.{quiet_goes_on}
 use Rattle.conn_steps.proofs.StageWords.{known, known_now, more_in, same_settled, stage_at, stage_is}
 
 not_not : (b : Bool) → not (not b) ≡ true → b ≡ true
@@ -69,7 +70,7 @@ module _ (L : List Item) (ev : Event) (acts : List Act) (turn : Turn) (e : Excha
   pub on_now : has_ended (site_of conn) (number_of conn) e ≡ false
   on_now = quiet_goes_on L ev acts turn e conn n s c.rest.1
 
-  items_are : all_of e ≡ after_step L ev acts
+  pub items_are : all_of e ≡ after_step L ev acts
   items_are = s.children.knows.items ∙ append_assoc L (In ev ∷ []) (map Out acts)
 
   early_none : is_early conn ≡ false
@@ -102,7 +103,7 @@ module _ (L : List Item) (ev : Event) (acts : List Act) (turn : Turn) (e : Excha
     abbrev quiet : QuietBy conn e conn.stage
     quiet = (c.rest.1.found found).quiet
 
-    unawaited : is_unanswered conn.stage ≡ true → conn.continued ≡ false → is_awaited (site_of conn) (number_of conn) e ≡ false
+    pub unawaited : is_unanswered conn.stage ≡ true → conn.continued ≡ false → is_awaited (site_of conn) (number_of conn) e ≡ false
     unawaited u first =
         false_from_ne_true (is_awaited (site_of conn) (number_of conn) e) (λ awaited.
         let was = (c.rest.1.found found).let_on u first awaited in

@@ -26,7 +26,7 @@ use Rattle.conn_core.specs.Ready.{outcome_of_run}
 use Rattle.conn_core.specs.Reasons.{ends_with, is_done_with}
 use Rattle.conn_core.specs.Slot.{run_settled}
 use Rattle.conn_stages.proofs.StagedLaws.{no_last}
-use Rattle.conn_core.specs.Parts.{Answers, Begins, BeginsBy, GivesHop, Loses, Handles, LosesTurn, MakesHopReady, Nothing, Or, Part, Round, Rounds, RoundsOn, Serves, Then, the_one, the_other}
+use Rattle.conn_core.specs.Parts.{Answers, Begins, BeginsBy, GivesHop, Handles, Loses, LosesHop, LosesTurn, MakesHopReady, Nothing, Or, Part, Round, Rounds, RoundsOn, Serves, Then, the_one, the_other}
 use Rattle.conn_steps.specs.Standing.{Apt, AptAt, IsAwake, Leaves, Makes, Quiet, Rest, Standing, Within, ends_at, must_go}
 use Rattle.conn_core.specs.Tells.{TellsMore, goes_at, has_turn}
 use Rattle.conn_steps.proofs.AnswerLaws.{answers_leave}
@@ -34,7 +34,7 @@ use Rattle.conn_steps.proofs.EndWords.{Going, accepted_of, ends_same, going, uns
 use Rattle.conn_steps.proofs.HandleLaws.{handles_leave}
 use Rattle.conn_steps.proofs.HopLaws.{HopReady, gives_hop_leave, hops_make}
 use Rattle.conn_steps.proofs.LossLaws.{lost_with, loses, over_lost, posts_lost}
-use Rattle.conn_steps.proofs.ServedLaws.{quiet_unended}
+use Rattle.conn_steps.proofs.QuietWords.{quiet_unended}
 use Rattle.conn_steps.proofs.StageWords.{even_free, free_lost, free_settled, known, stage_at, unwhole}
 use Rattle.conn_steps.proofs.ThenLaws.{leaves_as, leaves_made, leaves_none, then_leaves}
 
@@ -133,7 +133,7 @@ module _ (L : List Item) (ev : Event) (acts : List Act) (turn : Turn) (e : Excha
     by_turn true done same is (the_other p) =
         let t = turn_on done same (sym is) in
         let g : Going old (is_done_with old (request_bytes (number_of old) e)) = going old (is_done_with old (request_bytes (number_of old) e)) t.0 in
-        leaves_made Loses Rest L ev acts turn e old new n moves s p form (gives_up g t.1 p.by)
+        leaves_made LosesHop Rest L ev acts turn e old new n moves s p form (gives_up g t.1 p.by.loses)
       where
         gives_up : Going old (is_done_with old (request_bytes (number_of old) e)) → run_settled old.run ≡ true → Loses old n moves new → Makes Rest L ev acts e old n moves new
         gives_up g settled l = lose_on L ev acts turn e old n s awake q g settled moves new l

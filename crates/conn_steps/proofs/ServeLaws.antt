@@ -16,7 +16,7 @@ use Rattle.trace_model.specs.Exchange.{Exchange, pushed, request_bytes}
 use Rattle.trace_model.specs.Exchanges.{ends_by}
 use Rattle.trace_model.specs.Legs.{Leg as Started}
 use Rattle.trace_model.specs.Launches.{is_right_start}
-use Rattle.exchange_stage.specs.declared.stage.Stage.{Stage}
+use Rattle.trace_model.specs.Talks.{is_right_upgrade}
 use Rattle.exchange_stage.specs.Items.{AreQuiet, with_acts as stage_acts}
 use Rattle.exchange_stage.specs.Unanswered.{is_awaited}
 use Rattle.exchange_stage.proofs.UnansweredLaws.{awaited-quiet}
@@ -24,9 +24,13 @@ use Rattle.conn_children.specs.Children.{KnowsChildren}
 use Rattle.conn_children.specs.Laws.{with_acts}
 use Rattle.conn_children.proofs.KnowLaws.{run_acts_known}
 use Rattle.conn_front.specs.Moves.{AreInStep, acts_of, moved}
+use Rattle.conn_core.specs.declared.conn.Conn.{Conn}
+use Rattle.conn_core.specs.Kept.{number_of, site_of}
 use Rattle.conn_core.specs.Parts.{gives_all}
-use Rattle.conn_steps.specs.Standing.{AreRight, BodiesAt}
-use Rattle.conn_steps.proofs.PushWords.{bodies_quiet, bytes_quiet}
+use Rattle.conn_stages.specs.HeardStages.{HasHeard, StartsComeFirst}
+use Rattle.conn_stages.proofs.StartWords.{first_quiet, quiet_start}
+use Rattle.conn_steps.proofs.BodyWords.{heard_push}
+use Rattle.conn_steps.proofs.PushWords.{bytes_quiet}
 
 -- ---- acts of the child alone
 
@@ -37,6 +41,7 @@ pub record IsChilds (act : Act) : Type 0 where
   pub unheard : (c : ℕ) → bytes_heard c (Out act) ≡ []
   pub right : (site : Site) (c : ℕ) (e : Exchange) → is_right_start site c e act ≡ true
   pub in_turn : (site : Site) (c : ℕ) (e : Exchange) → begins_in_turn site c e act ≡ true
+  pub upgrade : (site : Site) (c : ℕ) (e : Exchange) → is_right_upgrade site c e act ≡ true
   pub next : (n : ℕ) → next_after n (act ∷ []) ≡ n
 
 abbrev pub AreChilds : List Act → Type 0
@@ -52,19 +57,19 @@ childs_when true act is = (is, tt)
 childs_when false act is = tt
 
 feed_childs : (k : ℕ) (bytes : List ℕ) → IsChilds (Feed k bytes)
-feed_childs k bytes = record { unwritten = λ c. refl; starts_none = λ c. refl; unheard = λ c. refl; right = λ site c e. refl; in_turn = λ site c e. refl; next = λ n. refl }
+feed_childs k bytes = record { unwritten = λ c. refl; starts_none = λ c. refl; unheard = λ c. refl; right = λ site c e. refl; in_turn = λ site c e. refl; upgrade = λ site c e. refl; next = λ n. refl }
 
 input_childs : (k : ℕ) → IsChilds (EndInput k)
-input_childs k = record { unwritten = λ c. refl; starts_none = λ c. refl; unheard = λ c. refl; right = λ site c e. refl; in_turn = λ site c e. refl; next = λ n. refl }
+input_childs k = record { unwritten = λ c. refl; starts_none = λ c. refl; unheard = λ c. refl; right = λ site c e. refl; in_turn = λ site c e. refl; upgrade = λ site c e. refl; next = λ n. refl }
 
 kill_childs : (k : ℕ) → IsChilds (Kill k)
-kill_childs k = record { unwritten = λ c. refl; starts_none = λ c. refl; unheard = λ c. refl; right = λ site c e. refl; in_turn = λ site c e. refl; next = λ n. refl }
+kill_childs k = record { unwritten = λ c. refl; starts_none = λ c. refl; unheard = λ c. refl; right = λ site c e. refl; in_turn = λ site c e. refl; upgrade = λ site c e. refl; next = λ n. refl }
 
 release_childs : (k : ℕ) → IsChilds (Release k)
-release_childs k = record { unwritten = λ c. refl; starts_none = λ c. refl; unheard = λ c. refl; right = λ site c e. refl; in_turn = λ site c e. refl; next = λ n. refl }
+release_childs k = record { unwritten = λ c. refl; starts_none = λ c. refl; unheard = λ c. refl; right = λ site c e. refl; in_turn = λ site c e. refl; upgrade = λ site c e. refl; next = λ n. refl }
 
 want_childs : (k : ℕ) → IsChilds (WantChild k)
-want_childs k = record { unwritten = λ c. refl; starts_none = λ c. refl; unheard = λ c. refl; right = λ site c e. refl; in_turn = λ site c e. refl; next = λ n. refl }
+want_childs k = record { unwritten = λ c. refl; starts_none = λ c. refl; unheard = λ c. refl; right = λ site c e. refl; in_turn = λ site c e. refl; upgrade = λ site c e. refl; next = λ n. refl }
 
 pub childs_acting : (may : Bool) (v : View) → AreChilds (acting may v)
 unfolding acting
@@ -96,19 +101,19 @@ moved-gives site c e [] = ap (λ (l : List Item). record e { items = l }) (sym (
 moved-gives site c e (act ∷ acts) =
     moved-gives site c (pushed e (Out act)) acts ∙ ap (λ (l : List Item). record e { items = l }) (append_assoc e.items (Out act ∷ []) (map Out acts))
 
-pub right-gives : (site : Site) (c : ℕ) (e : Exchange) (acts : List Act) → AreChilds acts → AreRight site c e (gives_all acts)
-right-gives site c e [] a = tt
-right-gives site c e (act ∷ acts) a = (a.0.right site c e, a.0.in_turn site c e, right-gives site c (pushed e (Out act)) acts a.1)
-
 pub next-childs : (n : ℕ) (acts : List Act) → AreChilds acts → next_after n acts ≡ n
 next-childs n [] a = refl
 next-childs n (act ∷ acts) a = next_after-append n (act ∷ []) acts ∙ (ap (λ (k : ℕ). next_after k acts) (a.0.next n) ∙ next-childs n acts a.1)
 
 -- ---- what they leave as it was
 
-pub bodies_gives : (site : Site) (c : ℕ) (e : Exchange) (t : Stage) (acts : List Act) → AreChilds acts → BodiesAt site c e t → BodiesAt site c (moved site c e (gives_all acts)) t
-bodies_gives site c e t [] a b = b
-bodies_gives site c e t (act ∷ acts) a b = bodies_gives site c (pushed e (Out act)) t acts a.1 (bodies_quiet site c e (Out act) t (a.0.unheard c) b)
+pub heard_gives : (conn : Conn) (e : Exchange) (acts : List Act) → AreChilds acts → HasHeard conn e → HasHeard conn (moved (site_of conn) (number_of conn) e (gives_all acts))
+heard_gives conn e [] a h = h
+heard_gives conn e (act ∷ acts) a h = heard_gives conn (pushed e (Out act)) acts a.1 (heard_push conn e (Out act) (a.0.unheard (number_of conn)) h)
+
+pub starts_gives : (site : Site) (c : ℕ) (e : Exchange) (acts : List Act) → AreChilds acts → StartsComeFirst e → StartsComeFirst (moved site c e (gives_all acts))
+starts_gives site c e [] a first = first
+starts_gives site c e (act ∷ acts) a first = starts_gives site c (pushed e (Out act)) acts a.1 (first_quiet e (Out act) (λ k. quiet_start k act a.0.starts_none) first)
 
 pub bytes_gives : (site : Site) (c : ℕ) (e : Exchange) (acts : List Act) → AreChilds acts → request_bytes c (moved site c e (gives_all acts)) ≡ request_bytes c e
 bytes_gives site c e [] a = refl

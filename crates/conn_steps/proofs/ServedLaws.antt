@@ -1,5 +1,5 @@
 -- What is due for the child is given, and the stage stays.
-use Rattle.std.proofs.Common.{◌≡◌, ◌≤◌, ℕ, Bool, true, false, ◌&&◌, ◌||◌, List, [], ◌∷◌, ◌++◌, Option, Some, None, is_some, refl, sym, ap, ◌∙◌, subst}
+use Rattle.std.proofs.Common.{◌≡◌, ◌≤◌, ℕ, Bool, true, false, ◌&&◌, ◌||◌, List, [], ◌++◌, Option, Some, None, is_some, refl, sym, ap, ◌∙◌, subst, inl}
 use Rattle.std.proofs.lemmas.Bool.{and_parts, false≢true, or_parts}
 use Rattle.host_trace.specs.declared.items.Act.{Act}
 use Rattle.host_trace.specs.declared.items.Event.{Event}
@@ -13,13 +13,10 @@ use Rattle.child_core.specs.Due.{acted, acting}
 use Rattle.child_core.specs.View.{View}
 use Rattle.child_core.proofs.MemoryLaws.{acting-due}
 use Rattle.trace_model.specs.Exchange.{Exchange}
-use Rattle.trace_model.specs.Exchanges.{has_ended}
-use Rattle.trace_model.specs.Legs.{Leg as Started}
 use Rattle.exchange_stage.specs.declared.stage.Leg.{Leg}
 use Rattle.exchange_stage.specs.declared.stage.Stage.{Stage}
 use Rattle.exchange_stage.specs.declared.stage.Stage.TheVariants as At
-use Rattle.exchange_stage.specs.Items.{ActsKeep, is_calm, is_nothing, with_acts as stage_acts}
-use Rattle.exchange_stage.specs.Rules.{IsUnended}
+use Rattle.exchange_stage.specs.Items.{ActsKeep, with_acts as stage_acts}
 use Rattle.exchange_stage.specs.StageIs.{LostIs}
 use Rattle.exchange_stage.proofs.PassLaws.{quiet_acts_keep}
 use Rattle.conn_marks.specs.View.{has_room}
@@ -35,13 +32,14 @@ use Rattle.conn_core.specs.Reasons.{ends_with, is_done_with}
 use Rattle.conn_core.specs.Settles.{is_answered, is_over}
 use Rattle.conn_stages.specs.Staged.{Staged}
 use Rattle.conn_stages.proofs.ItemLaws.{serves_staged}
-use Rattle.conn_stages.proofs.StagedLaws.{no_last, outcome_told}
 use Rattle.conn_core.specs.Parts.{gives_all}
-use Rattle.conn_steps.specs.Standing.{CutIs, EvenAt, IsAwake, IsDecided, Makes, Quiet, QuietBy, QuietFound, RunQuiet, Standing, StaysRun, ends_at, is_early, is_left}
+use Rattle.conn_stages.specs.Inward.{CutIs, IsDecided, IsPast, StaysRun, is_left}
+use Rattle.conn_steps.specs.Standing.{EvenAt, IsAwake, Makes, Quiet, QuietBy, RunQuiet, Standing, ends_at, is_early}
 use Rattle.conn_steps.proofs.EndsLaws.{Steady}
-use Rattle.conn_steps.proofs.LackLaws.{not_output}
-use Rattle.conn_steps.proofs.ServeLaws.{AreChilds, acts_of-gives, awaited_gives, bodies_gives, bytes_gives, childs_acting, moved-gives, next-childs, path_in_step, quiet_gives, right-gives, stage_gives}
-use Rattle.conn_steps.proofs.StageWords.{ended_found, ended_lost, known, known_now}
+use Rattle.conn_steps.proofs.FormWords.{path_right}
+use Rattle.conn_steps.proofs.ServeLaws.{AreChilds, acts_of-gives, awaited_gives, bytes_gives, childs_acting, heard_gives, moved-gives, next-childs, path_in_step, quiet_gives, stage_gives, starts_gives}
+use Rattle.conn_steps.proofs.StageWords.{known_now}
+use Rattle.conn_steps.proofs.QuietWords.{calm_quiet, child_accepted, quiet_goes_on, some_last}
 
 -- ---- acts of the child leave what was decided of it
 
@@ -57,6 +55,10 @@ acted_exited : (may : Bool) (v : View) → (acted may v).exited ≡ v.exited
 unfolding acted
 acted_exited may v = refl
 
+acted_started : (may : Bool) (v : View) → (acted may v).started ≡ v.started
+unfolding acted
+acted_started may v = refl
+
 acted_refused : (may : Bool) (v : View) → (acted may v).refused ≡ v.refused
 unfolding acted
 acted_refused may v = refl
@@ -64,53 +66,19 @@ acted_refused may v = refl
 unsettled_by : (v : View) → v.refused ≡ false → v.exited ≡ false → is_settled v ≡ false
 unsettled_by v refused exited = ap (λ (b : Bool). b || (v.exited && v.input_ended && v.output_ended)) refused ∙ ap (λ (b : Bool). b && v.input_ended && v.output_ended) exited
 
--- ---- a connection of which nothing is due
+-- no act settles a child that was not started
+acted_still : (may : Bool) (v : View) → v.started ≡ false → is_settled (acted may v) ≡ is_settled v
+unfolding acted
+acted_still may v off = rw off refl
 
-pub some_last : {X : Type 0} (xs : List X) (x : X) (ys : List X) → ys ≡ xs ++ x ∷ [] → is_filled ys ≡ true
-some_last xs x [] is = absurd (no_last xs x is)
-some_last xs x (y ∷ ys) is = refl
-
-quiet_calm : (conn : Conn) (e : Exchange) (legs : List Started) (t : Stage) → is_filled legs ≡ true → QuietBy conn e t → is_calm legs t ≡ true
-quiet_calm conn e legs At.Reading some q = refl
-quiet_calm conn e legs (At.Rejected cause bare) some q = absurd q
-quiet_calm conn e legs (At.Interrupted cause) some q = absurd q
-quiet_calm conn e legs (At.Refused cause) some q = refl
-quiet_calm conn e legs (At.Unstarted hop request) some q = refl
-quiet_calm conn e legs (At.Starting leg launch body whole) some q = absurd q
-quiet_calm conn e legs (At.Running leg) some q = ap is_nothing q.0
-quiet_calm conn e legs (At.Finishing text closes) some q = absurd q
-quiet_calm conn e legs At.Answered some q = some
-quiet_calm conn e legs At.Silent some q = refl
-
-not_out : (conn : Conn) (e : Exchange) (leg : Leg) (o : Option Outcome) → RunQuiet conn e leg o → o ≡ Some Output → ⊥
-not_out conn e leg o q is = subst (λ (p : Option Outcome). RunQuiet conn e leg p) is q
-
--- the whole answer doesn't stand unless its stage says so
-pub quiet_unended : (L : List Item) (ev : Event) (acts : List Act) (turn : Turn) (e : Exchange) (conn : Conn) (n : ℕ) (s : Standing L ev acts turn n e conn) → conn.lost ≡ false → QuietFound e conn
-    → IsUnended (site_of conn) (number_of conn) e s.legs conn.stage
-quiet_unended L ev acts turn e conn n s found q = go conn.stage q.quiet
+stays_unsettled : (may : Bool) (v : View) → StaysRun (Some v) → is_settled (acted may v) ≡ false
+stays_unsettled may v stays = go v.started refl
   where
-    go : (t : Stage) → QuietBy conn e t → IsUnended (site_of conn) (number_of conn) e s.legs t
-    go (At.Running leg) r = λ started last der.
-        not_output (outcome_of_run conn.run) (not_out conn e leg (outcome_of_run conn.run) r.1)
-        (sym (outcome_told (site_of conn) (number_of conn) e n s.legs conn.run (known L ev acts turn n e conn s found) started last) ∙ der)
-    go At.Reading r = tt
-    go (At.Rejected cause bare) r = tt
-    go (At.Interrupted cause) r = tt
-    go (At.Refused cause) r = tt
-    go (At.Unstarted hop request) r = tt
-    go (At.Starting leg launch body whole) r = tt
-    go (At.Finishing text closes) r = absurd r
-    go At.Answered r = tt
-    go At.Silent r = tt
-
-pub quiet_goes_on : (L : List Item) (ev : Event) (acts : List Act) (turn : Turn) (e : Exchange) (conn : Conn) (n : ℕ) (s : Standing L ev acts turn n e conn) → Quiet e conn
-    → has_ended (site_of conn) (number_of conn) e ≡ false
-quiet_goes_on L ev acts turn e conn n s q = go conn.lost refl
-  where
-    go : (b : Bool) → conn.lost ≡ b → has_ended (site_of conn) (number_of conn) e ≡ false
-    go true is = ended_lost L ev acts turn n e conn s is ∙ q.unover
-    go false is = ended_found L ev acts turn n e conn s is (quiet_unended L ev acts turn e conn n s is (q.found is)) ∙ q.unover
+    go : (b : Bool) → v.started ≡ b → is_settled (acted may v) ≡ false
+    go false off = acted_still may v off ∙ stays.0
+    go true on =
+        unsettled_by (acted may v) (acted_refused may v ∙ (or_parts v.refused (v.exited && v.input_ended && v.output_ended) stays.0).0)
+        (acted_exited may v ∙ (ap (λ (b : Bool). b && v.exited) (sym on) ∙ stays.1))
 
 -- ---- what is due is given
 
@@ -208,30 +176,45 @@ module _ (L : List Item) (ev : Event) (acts : List Act) (e : Exchange) (old : Co
       go : (b : Bool) → ((marks_of old).stopped || (marks_of old).gone) ≡ b → Steady mid
       go false is = let both = or_parts (marks_of old).stopped (marks_of old).gone is in record { unstopped = both.0; here = both.1 }
       go true is =
-          let stays : StaysRun (Some v) = subst (λ (r : Option View). StaysRun r) run (s.inward.stays found unshut is) in
-          absurd (false≢true (sym (unsettled_by (acted may v) (acted_refused may v ∙ stays.0) (acted_exited may v ∙ stays.1)) ∙ settled))
+          let whole : is_answered old.stage ≡ true = (and_parts (is_answered old.stage) (is_settled (acted may v)) over).0 in
+          let stays : StaysRun (Some v) = subst (λ (r : Option View). StaysRun r) run (s.inward.stays found unshut is whole) in
+          absurd (false≢true (sym (stays_unsettled may v stays) ∙ settled))
 
   decided_then : IsDecided (Some v) → IsDecided (Some (acted may v))
   decided_then d = ap (λ (o : Option Outcome). is_some o) (acted_outcome may v) ∙ d
 
+  past_then : (t : Stage) → IsPast t (Some v) → IsPast t (Some (acted may v))
+  past_then (At.Running leg) p = λ first. decided_then (p first)
+  past_then (At.Unstarted hop request) p = p
+  past_then (At.Starting leg launch body whole) p = p
+  past_then At.Reading p = tt
+  past_then (At.Rejected cause bare) p = tt
+  past_then (At.Interrupted cause) p = tt
+  past_then (At.Refused cause) p = tt
+  past_then (At.Finishing text closes) p = tt
+  past_then At.Answered p = tt
+  past_then At.Silent p = tt
+
   stays_then : StaysRun (Some v) → StaysRun (Some (acted may v))
-  stays_then t = (acted_refused may v ∙ t.0, acted_exited may v ∙ t.1)
+  stays_then t = (stays_unsettled may v t, ap (λ (b : Bool). b && (acted may v).exited) (acted_started may v) ∙ (ap (λ (b : Bool). v.started && b) (acted_exited may v) ∙ t.1))
 
   pub serves_make : Makes Handled L ev acts e old n (gives_all (acting may v)) mid
   serves_make = record {
     in_step = path_in_step (site_of old) (number_of old) (is_early old) may n s.legs two (acting may v) e v (acting-due may v).path knows;
-    right = right-gives (site_of old) (number_of old) e (acting may v) childs;
+    right = path_right (site_of old) (number_of old) (is_early old) may n s.legs two (acting may v) e v (acting-due may v).path knows childs;
     turn = served may;
     over = s.over;
     legs = s.legs;
     staged = λ found.
         subst (λ (d : Exchange). Staged mid d s.legs) (sym (moved-gives (site_of old) (number_of old) e (acting may v)))
-        (serves_staged old e s.legs may v two (s.staged found) (quiet_calm old e s.legs old.stage some_legs (q.found found).quiet) run);
+        (serves_staged old e s.legs may v two (s.staged found) (calm_quiet old e s.legs old.stage (λ at. some_legs) (q.found found).quiet) run);
     lost = λ is. lost_kept old.stage (s.lost is);
+    memory = λ is shut. inl (is, shut);
     children = deals;
-    bodies = λ found. bodies_gives (site_of old) (number_of old) e old.stage (acting may v) childs (s.bodies found);
+    heard = λ found. let h = heard_gives old e (acting may v) childs (s.heard found) in record { bodies = h.bodies; looked = h.looked; handed = h.handed };
     inward = record {
       calm = s.inward.calm;
+      calm_found = s.inward.calm_found;
       accepted = s.inward.accepted;
       http = s.inward.http;
       lost_in = s.inward.lost_in;
@@ -239,9 +222,15 @@ module _ (L : List Item) (ev : Event) (acts : List Act) (e : Exchange) (old : Co
       decided = λ found r. decided_then (subst (λ (r : Option View). IsDecided r) run (s.inward.decided found r));
       cut_is = λ found. subst (λ (o : Option Outcome). CutIs old.stage o old.cut) outcome_same (s.inward.cut_is found);
       held = λ shut. decided_then (subst (λ (r : Option View). IsDecided r) run (s.inward.held shut));
-      looked = s.inward.looked;
-      stays = λ found unshut ends. stays_then (subst (λ (r : Option View). StaysRun r) run (s.inward.stays found unshut ends));
+      stays = λ found unshut ends whole. stays_then (subst (λ (r : Option View). StaysRun r) run (s.inward.stays found unshut ends whole));
+      closes_is = s.inward.closes_is;
+      room = s.inward.room;
+      asked = s.inward.asked;
+      within = λ found open_yet either. let was = s.inward.within found open_yet either in record { untaken = was.untaken; looked = was.looked };
+      past = λ found open_yet unshut ended. past_then old.stage (subst (λ (r : Option View). IsPast old.stage r) run (s.inward.past found open_yet unshut ended));
     };
+    starts_first = starts_gives (site_of old) (number_of old) e (acting may v) childs s.starts_first;
+    accepted = child_accepted L ev acts waiting e old n s v run;
     post = record {
       steady = steady_then;
       quiet = λ unover. record {

@@ -16,7 +16,9 @@ use Rattle.exchange_stage.specs.declared.stage.Stage.{Stage}
 use Rattle.exchange_stage.specs.declared.stage.Stage.TheVariants as At
 use Rattle.exchange_stage.specs.Rules.{IsUnended, is_answered as answers}
 use Rattle.exchange_stage.specs.StageIs.{LostIs, StageIs}
-use Rattle.exchange_stage.proofs.WholeLaws.{whole_is_answered}
+use Rattle.exchange_stage.specs.Items.{is_unanswered}
+use Rattle.exchange_stage.specs.Unanswered.{is_awaited}
+use Rattle.exchange_stage.proofs.WholeLaws.{continues_come_first, whole_is_answered}
 use Rattle.conn_marks.specs.View.{View as Marks}
 use Rattle.conn_children.specs.Children.{KnowsChildren, is_over as is_settled_run}
 use Rattle.conn_children.specs.Step.{Turn, waiting, begun, served}
@@ -64,6 +66,17 @@ pub unwhole : (conn : Conn) (e : Exchange) (legs : List Started) → Staged conn
 unwhole conn e legs staged unended none =
     whole_is_answered (site_of conn) (number_of conn) e legs conn.continued (is_looked_at conn.request) (conn.closing || conn.closes) (more_in conn e legs staged) conn.stage (stage_is conn e legs staged) unended
     ∙ (same_answered conn.stage ∙ none)
+
+-- where 100 Continue was not written, and doesn't wait before an answer has begun, it doesn't wait at all
+pub first_unawaited : (conn : Conn) (e : Exchange) (legs : List Started) → Staged conn e legs → (is_unanswered conn.stage ≡ true → is_awaited (site_of conn) (number_of conn) e ≡ false)
+    → conn.continued ≡ false → is_awaited (site_of conn) (number_of conn) e ≡ false
+first_unawaited conn e legs staged before first = go (is_unanswered conn.stage) refl
+  where
+    go : (b : Bool) → is_unanswered conn.stage ≡ b → is_awaited (site_of conn) (number_of conn) e ≡ false
+    go true is = before is
+    go false is =
+        continues_come_first (site_of conn) (number_of conn) e legs (is_looked_at conn.request) (conn.closing || conn.closes) (more_in conn e legs staged) conn.stage
+        (subst (λ (b : Bool). StageIs (site_of conn) (number_of conn) e legs b (is_looked_at conn.request) (conn.closing || conn.closes) (more_in conn e legs staged) conn.stage) first (stage_is conn e legs staged)) is
 
 -- ---- where memory was wanting
 

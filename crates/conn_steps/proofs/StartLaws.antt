@@ -1,7 +1,7 @@
 -- The script of a hop is started.
-use Rattle.std.proofs.Common.{◌≡◌, ◌≤◌, ℕ, ◌+◌, Bool, true, false, ◌&&◌, ◌||◌, not, List, [], ◌∷◌, ◌++◌, Some, refl, sym, ap, ◌∙◌, subst, arith}
+use Rattle.std.proofs.Common.{◌≡◌, ◌≤◌, ℕ, ◌+◌, Bool, true, false, ◌&&◌, ◌||◌, not, List, [], ◌∷◌, ◌++◌, Some, refl, sym, ap, ◌∙◌, subst, le_refl, arith}
 use Rattle.std.specs.List.{list_any}
-use Rattle.std.proofs.lemmas.Bool.{false≢true, or_from, or_parts}
+use Rattle.std.proofs.lemmas.Bool.{eqb-true, false≢true, or_from, or_parts}
 use Rattle.std.proofs.lemmas.List.Folds.{list_any-append}
 use Rattle.host_base.specs.declared.launch.Launch.{Launch}
 use Rattle.host_trace.specs.declared.items.Act.{Act}
@@ -9,10 +9,13 @@ use Rattle.host_trace.specs.declared.items.Act.TheVariants.{Start}
 use Rattle.host_trace.specs.declared.items.Event.{Event}
 use Rattle.host_trace.specs.declared.items.Item.{Item}
 use Rattle.host_trace.specs.declared.items.Item.TheVariants.{Out}
-use Rattle.host_trace.specs.Kinds.{names_child}
+use Rattle.host_trace.specs.Kinds.{is_start, names_child}
+use Rattle.host_trace.specs.Projections.{child_out}
+use Rattle.child_core.proofs.OutputLaws.{no_output_in}
 use Rattle.request_reader.specs.Request.{is_begun}
 use Rattle.child_core.specs.View.{View}
-use Rattle.trace_model.specs.Exchange.{Exchange, pushed, request_bytes}
+use Rattle.child_core.proofs.WordLaws.{none, start_names}
+use Rattle.trace_model.specs.Exchange.{Exchange, all_of, pushed, request_bytes}
 use Rattle.trace_model.specs.Exchanges.{has_ended}
 use Rattle.trace_model.specs.Legs.{leg_of}
 use Rattle.exchange_request.specs.Knows.{is_looked_at}
@@ -40,8 +43,11 @@ use Rattle.conn_core.specs.Settles.{is_over}
 use Rattle.conn_core.specs.Reasons.{is_done_with}
 use Rattle.conn_core.specs.Slot.{run_settled}
 use Rattle.conn_stages.proofs.EndLaws.{starts_staged}
+use Rattle.conn_stages.specs.Inward.{IsPast}
 use Rattle.conn_core.specs.Parts.{Loses, Part, StartsScript, run_begun, the_one, the_other, Or}
+use Rattle.conn_stages.proofs.StartWords.{first_push}
 use Rattle.conn_steps.specs.Standing.{IsAwake, Leaves, Makes, Rest, Standing, ends_at, is_early}
+use Rattle.conn_steps.proofs.BodyWords.{heard_push, no_script_waits}
 use Rattle.conn_steps.proofs.EndWords.{Going, accepted_of, goes, going, unshut_of}
 use Rattle.conn_steps.proofs.HopWords.{may_turn}
 use Rattle.conn_steps.proofs.LossLaws.{lost_with, loses, over_lost, posts_lost}
@@ -120,9 +126,13 @@ module _ (L : List Item) (ev : Event) (acts : List Act) (turn : Turn) (e : Excha
   starts_make = record {
     in_step = (ended_not, tt);
     right = (
-      starts_are_right (site_of old) (number_of old) e s.legs old.continued (is_looked_at old.request) (old.closing || old.closes) (more_in old e s.legs (s.staged g.found)) leg launch body whole n starting
-          (may_turn L ev acts turn e old n s settled room) (sym s.marks.stopped ∙ g.unstopped) (sym s.marks.shut ∙ unshut_of old (is_done_with old bytes) g),
-      refl,
+      record {
+        start = starts_are_right (site_of old) (number_of old) e s.legs old.continued (is_looked_at old.request) (old.closing || old.closes) (more_in old e s.legs (s.staged g.found)) leg launch body whole n starting
+            (may_turn L ev acts turn e old n s settled room) (sym s.marks.stopped ∙ g.unstopped) (sym s.marks.shut ∙ unshut_of old (is_done_with old bytes) g);
+        in_turn = refl;
+        upgrade = refl;
+        may = ap not (none (is_start n) n (all_of e) (start_names n) (s.children.knows.fresh n (le_refl n)));
+      },
       tt,
     );
     turn = begun;
@@ -130,10 +140,16 @@ module _ (L : List Item) (ev : Event) (acts : List Act) (turn : Turn) (e : Excha
     legs = s.legs ++ leg_of leg.hop leg.kind leg.request n ∷ [];
     staged = λ found. starts_staged old e s.legs leg launch body whole v two (s.staged g.found) at unnamed refl;
     lost = λ is. absurd (false≢true (sym g.found ∙ is));
+    memory = λ is. absurd (false≢true (sym g.found ∙ is));
     children = deals;
-    bodies = λ found. tt;
+    heard = λ found. record {
+      bodies = no_script_waits (site_of old) (number_of old) (pushed e (Out (act e.number))) (At.Running leg) refl;
+      looked = λ r. (s.heard found).looked (ap is_reading at);
+      handed = (heard_push old e (Out (act e.number)) refl (s.heard found)).handed;
+    };
     inward = record {
       calm = λ idle. absurd (false≢true (sym g.calm ∙ idle));
+      calm_found = λ found idle. absurd (false≢true (sym g.calm ∙ idle));
       accepted = λ r. accepted_of old (is_done_with old bytes) g;
       http = s.inward.http;
       lost_in = λ is. absurd (false≢true (sym g.found ∙ is));
@@ -141,9 +157,16 @@ module _ (L : List Item) (ev : Event) (acts : List Act) (turn : Turn) (e : Excha
       left = λ found is. absurd (false≢true is);
       cut_is = λ found. g.uncut;
       held = λ shut. absurd (false≢true (sym (unshut_of old (is_done_with old bytes) g) ∙ shut));
-      looked = λ found r. s.inward.looked found (ap is_reading at);
       stays = λ found unshut ends. absurd (false≢true (sym (or_from _ _ g.unstopped g.here) ∙ ends));
+      closes_is = λ is. absurd (false≢true (sym g.unclosed ∙ is));
+      room = s.inward.room;
+      asked = s.inward.asked;
+      within = λ found open_yet either. record { untaken = (s.inward.within found open_yet either).untaken; looked = λ r. absurd (false≢true r) };
+      past = λ found open_yet unshut ended first.
+          absurd (subst (λ (t : Stage). IsPast t old.run) at (s.inward.past found open_yet unshut ended) first);
     };
+    starts_first = first_push e (Out (act e.number)) (λ k is. subst (λ (j : ℕ). child_out e.items j ≡ []) (sym (eqb-true k n is)) (no_output_in n e.items unnamed)) s.starts_first;
+    accepted = accepted_of old (is_done_with old bytes) g;
     post = (
       tt,
       record {

@@ -1,12 +1,15 @@
 -- Parts, one after the other.
-use Rattle.std.proofs.Common.{◌≡◌, ℕ, Bool, true, ◌&&◌, List, [], ◌∷◌, ◌++◌, map, refl, sym, ap, ◌∙◌, subst, append-nil, append_assoc}
-use Rattle.std.proofs.lemmas.Bool.{and_parts}
+use Rattle.std.proofs.Common.{◌≡◌, ℕ, Bool, true, ◌&&◌, List, [], ◌∷◌, ◌++◌, map, refl, sym, ap, ◌∙◌, subst, append-nil, append_assoc, ◌||◌, inl, inr}
+use Rattle.std.proofs.lemmas.Bool.{and_parts, false≢true, or_left, or_right}
+use Rattle.std.proofs.lemmas.List.Folds.{list_any-append}
 use Rattle.host_base.specs.declared.site.Site.{Site}
 use Rattle.host_trace.specs.declared.items.Act.{Act}
 use Rattle.host_trace.specs.declared.items.Act.TheVariants.{Write}
 use Rattle.host_trace.specs.declared.items.Event.{Event}
 use Rattle.host_trace.specs.declared.items.Item.{Item}
 use Rattle.host_trace.specs.declared.items.Item.TheVariants.{Out}
+use Rattle.host_trace.specs.Kinds.{is_shut_for_memory}
+use Rattle.host_trace.specs.Projections.{shut_for_memory}
 use Rattle.own_traces.specs.Whose.{next_after}
 use Rattle.own_traces.proofs.BlockLaws.{next_after-append}
 use Rattle.trace_model.specs.Exchange.{Exchange, all_of, continue_text, pushed}
@@ -21,7 +24,7 @@ use Rattle.conn_front.proofs.MoveLaws.{acts_of-append, moved-append}
 use Rattle.conn_core.specs.declared.conn.Conn.{Conn}
 use Rattle.conn_core.specs.Kept.{marks_of, number_of, site_of}
 use Rattle.conn_core.specs.Parts.{Deed, Nothing, Part, Then}
-use Rattle.conn_steps.specs.Standing.{AreRight, Claim, Leaves, Makes, Standing}
+use Rattle.conn_steps.specs.Standing.{WasShut, AreRight, Claim, Leaves, Makes, Standing}
 
 -- ---- moves
 
@@ -33,7 +36,7 @@ in_step_together site c e (settles ending ∷ xs) ys a b = (a.0, in_step_togethe
 
 pub right_together : (site : Site) (c : ℕ) (e : Exchange) (xs ys : List Move) → AreRight site c e xs → AreRight site c (moved site c e xs) ys → AreRight site c e (xs ++ ys)
 right_together site c e [] ys a b = b
-right_together site c e (gives act ∷ xs) ys a b = (a.0, a.1, right_together site c (pushed e (Out act)) xs ys a.2 b)
+right_together site c e (gives act ∷ xs) ys a b = (a.0, right_together site c (pushed e (Out act)) xs ys a.1 b)
 right_together site c e (continues d ∷ xs) ys a b = (a.0, right_together site c (pushed e (Out (Write d continue_text))) xs ys a.1 b)
 right_together site c e (settles ending ∷ xs) ys a b = (a.0, right_together site c (following site c e) xs ys a.1 b)
 
@@ -58,6 +61,11 @@ given_parts m (x ∷ xs) ys f =
 -- the acts of both parts are in form, each from the marks before it
 pub form_parts : (m : Marks) (xs ys : List Move) → are_given m (acts_of (xs ++ ys)) ≡ true → (are_given m (acts_of xs) ≡ true) × (are_given (given_all m (acts_of xs)) (acts_of ys) ≡ true)
 form_parts m xs ys f = given_parts m (acts_of xs) (acts_of ys) (subst (λ (l : List Act). are_given m l ≡ true) (acts_of-append xs ys) f)
+
+-- no act accepts a connection
+given_all-accepted : (m : Marks) (acts : List Act) → (given_all m acts).accepted ≡ m.accepted
+given_all-accepted m [] = refl
+given_all-accepted m (act ∷ acts) = given_all-accepted (noted m (Out act)) acts
 
 -- ---- parts
 
@@ -106,11 +114,24 @@ leaves_made By Post L ev acts turn e old new n moves s p form m =
         staged = m.staged;
         lost = m.lost;
         children = m.children;
-        bodies = m.bodies;
+        heard = m.heard;
         inward = m.inward;
+        starts_first = m.starts_first;
+        unheard = λ none. absurd (false≢true (sym none ∙ (ap (λ (v : Marks). v.accepted) p.marks ∙ (given_all-accepted (marks_of old) (acts_of moves) ∙ m.accepted))));
+        for_memory = λ is shut. subst (λ (k : ℕ). shut_for_memory (all_of (moved (site_of old) (number_of old) e moves)) k ≡ true) (sym number)
+            (ap (λ (l : List Item). shut_for_memory l (number_of old)) (all_moved (site_of old) (number_of old) e moves)
+            ∙ (list_any-append (is_shut_for_memory (number_of old)) (all_of e) (map Out (acts_of moves)) ∙ was_shut s.for_memory (m.memory is shut)));
       };
       post = m.post;
     }
+  where
+    number : number_of new ≡ number_of old
+    number = ap (λ (v : Marks). v.c) p.marks ∙ given_all-number (marks_of old) (acts_of moves)
+
+    was_shut : (old.lost ≡ true → (marks_of old).shut ≡ true → shut_for_memory (all_of e) (number_of old) ≡ true) → WasShut old (acts_of moves)
+        → (shut_for_memory (all_of e) (number_of old) || shut_for_memory (map Out (acts_of moves)) (number_of old)) ≡ true
+    was_shut before (inl was) = or_left (shut_for_memory (all_of e) (number_of old)) (shut_for_memory (map Out (acts_of moves)) (number_of old)) (before was.0 was.1)
+    was_shut before (inr now) = or_right (shut_for_memory (all_of e) (number_of old)) (shut_for_memory (map Out (acts_of moves)) (number_of old)) now
 
 pub leaves_none : (Post : Claim) (L : List Item) (ev : Event) (acts : List Act) (turn : Turn) (e : Exchange) (old new : Conn) (n : ℕ) (moves : List Move)
     → Standing L ev acts turn n e old → Nothing old n moves new → Post turn e old → Leaves Post L ev acts e old n moves new

@@ -31,13 +31,18 @@ use Rattle.conn_core.specs.Reasons.{ends_with, hears_at, is_done_with}
 use Rattle.conn_core.specs.Slot.{run_settled}
 use Rattle.conn_stages.proofs.ItemLaws.{others_staged}
 use Rattle.conn_core.specs.Parts.{Closes, Part, Serves, Steps, Then, Wants, WantsBy}
+use Rattle.conn_stages.proofs.StartWords.{first_quiet}
 use Rattle.conn_steps.specs.Standing.{Apt, EvenAt, Leaves, Makes, QuietBy, Rest, RunQuiet, Standing, ends_at, is_early}
 use Rattle.conn_core.specs.Tells.{TellsMore, goes_at, has_turn}
-use Rattle.conn_steps.proofs.CloseLaws.{Closed, calm_quiet, closes_leave, some_answered}
-use Rattle.conn_steps.proofs.EndWords.{ends_same, going}
-use Rattle.conn_steps.proofs.PushWords.{bodies_quiet, bytes_quiet}
+use Rattle.conn_steps.proofs.AskWords.{is_within, unended}
+use Rattle.conn_steps.proofs.CloseLaws.{Closed, closes_leave}
+use Rattle.conn_steps.proofs.QuietWords.{calm_quiet}
+use Rattle.conn_steps.proofs.ShutWords.{some_answered}
+use Rattle.conn_steps.proofs.EndWords.{Going, accepted_of, ends_same, going}
+use Rattle.conn_steps.proofs.BodyWords.{heard_push}
+use Rattle.conn_steps.proofs.PushWords.{bytes_quiet}
 use Rattle.conn_steps.proofs.RoundLaws.{serves_leave}
-use Rattle.conn_steps.proofs.ServedLaws.{quiet_goes_on}
+use Rattle.conn_steps.proofs.QuietWords.{quiet_goes_on}
 use Rattle.conn_steps.proofs.StageWords.{staged_run}
 use Rattle.conn_steps.proofs.ThenLaws.{leaves_made, leaves_none, then_leaves}
 
@@ -47,7 +52,7 @@ pub record Done (turn : Turn) (e : Exchange) (conn : Conn) : Type 0 where
   pub asked : ends_at conn e ≡ false → has_room (marks_of conn) ≡ true → hears_at conn conn.stage ≡ true → (marks_of conn).asked ≡ true
 
 module _ (L : List Item) (ev : Event) (acts : List Act) (turn : Turn) (e : Exchange) (old : Conn) (n : ℕ) (s : Standing L ev acts turn n e old) (two : 2 ≤ (site_of old).limits.head)
-    (c : Closed turn e old) (on : ends_at old e ≡ false) where
+    (c : Closed turn e old) (on : ends_at old e ≡ false) (hears : hears_at old old.stage ≡ true) where
   abbrev act : Act
   act = WantClient (number_of old)
 
@@ -57,8 +62,11 @@ module _ (L : List Item) (ev : Event) (acts : List Act) (turn : Turn) (e : Excha
   abbrev later : Exchange
   later = pushed e (Out act)
 
+  g : Going old (is_done_with old (request_bytes (number_of old) e))
+  g = going old _ on
+
   found : old.lost ≡ false
-  found = (going old _ on).found
+  found = g.found
 
   ended_not : has_ended (site_of old) (number_of old) e ≡ false
   ended_not = quiet_goes_on L ev acts turn e old n s c.rest.1
@@ -114,7 +122,7 @@ module _ (L : List Item) (ev : Event) (acts : List Act) (turn : Turn) (e : Excha
   asks_make : Makes Done L ev acts e old n (gives act ∷ []) mid
   asks_make = record {
     in_step = (ended_not, tt);
-    right = (refl, refl, tt);
+    right = (record { start = refl; in_turn = refl; upgrade = refl; may = refl }, tt);
     turn = turn;
     over = s.over;
     legs = s.legs;
@@ -122,10 +130,12 @@ module _ (L : List Item) (ev : Event) (acts : List Act) (turn : Turn) (e : Excha
         staged_run old (marks_of mid) old.run later s.legs refl refl
         (others_staged old e s.legs act two (s.staged f) (calm_quiet old e s.legs old.stage (λ at. some_answered L ev acts turn e old n s c.rest.1.unover at) (c.rest.1.found f).quiet) refl refl);
     lost = λ is. absurd (false≢true (sym found ∙ is));
+    memory = λ is. absurd (false≢true (sym found ∙ is));
     children = acts_move (site_of old) (number_of old) L ev acts e s.over act (is_early old) turn n s.legs old.run two refl refl ended_not s.children;
-    bodies = λ f. bodies_quiet (site_of old) (number_of old) e (Out act) old.stage refl (s.bodies f);
+    heard = λ f. let h = heard_push old e (Out act) refl (s.heard f) in record { bodies = h.bodies; looked = h.looked; handed = h.handed };
     inward = record {
       calm = s.inward.calm;
+      calm_found = s.inward.calm_found;
       accepted = s.inward.accepted;
       http = s.inward.http;
       lost_in = s.inward.lost_in;
@@ -133,9 +143,15 @@ module _ (L : List Item) (ev : Event) (acts : List Act) (turn : Turn) (e : Excha
       left = s.inward.left;
       cut_is = s.inward.cut_is;
       held = s.inward.held;
-      looked = s.inward.looked;
       stays = s.inward.stays;
+      closes_is = s.inward.closes_is;
+      room = s.inward.room;
+      asked = λ is. (accepted_of old _ g, unended L ev acts turn e old n s c on hears);
+      within = λ f open_yet either. let was = is_within L ev acts turn e old n s c on hears in record { untaken = was.untaken; looked = was.looked };
+      past = s.inward.past;
     };
+    starts_first = first_quiet e (Out act) (λ k. refl) s.starts_first;
+    accepted = accepted_of old _ g;
     post = record {
       asked = λ on room hears. or_left (number_of old == number_of old) (not (is_client_answer (number_of old) (Out act)) && (marks_of old).asked) (eq-eqb (number_of old) (number_of old) refl);
       closed = record {
@@ -185,12 +201,12 @@ wants_leave L ev acts turn e old new n moves s two c p form = by_due p.by.due re
         let on : ends_at old e ≡ false = sym (ends_same old e two s.front p.by.tells.done p.by.tells.tells) ∙ not-true (ends_with old p.by.tells.done) p3.0 in
         leaves_made Wants Done L ev acts turn e old new n moves s p form
         (subst (λ (l : List Move). Makes Done L ev acts e old n l new) (sym t.moves_are)
-        (subst (λ (d : Conn). Makes Done L ev acts e old n (gives (WantClient (number_of old)) ∷ []) d) (sym t.is) (asks_make L ev acts turn e old n s two c on)))
+        (subst (λ (d : Conn). Makes Done L ev acts e old n (gives (WantClient (number_of old)) ∷ []) d) (sym t.is) (asks_make L ev acts turn e old n s two c on p2.1)))
 
 -- ---- a whole step
 
 -- more can't be done, as it is told of the bytes that were heard
-still_of : (conn : Conn) (e : Exchange) → 2 ≤ (site_of conn).limits.head → StandsFor conn e → TellsMore conn false → goes_at conn (is_done_with conn (request_bytes (number_of conn) e)) conn.stage ≡ false
+pub still_of : (conn : Conn) (e : Exchange) → 2 ≤ (site_of conn).limits.head → StandsFor conn e → TellsMore conn false → goes_at conn (is_done_with conn (request_bytes (number_of conn) e)) conn.stage ≡ false
 still_of conn e two front m = go conn.stage ∙ sym m.is
   where
     same : ends_with conn m.done ≡ ends_at conn e

@@ -1,5 +1,5 @@
 -- How what is known of a connection goes on from part to part of a step, and what holds at its end.
-use Rattle.std.specs.Prelude.{ℕ, ◌≡◌, ◌≤◌, Bool, true, List, [], ◌∷◌, ◌++◌, Option}
+use Rattle.std.specs.Prelude.{ℕ, ◌≡◌, ◌≤◌, ◌<◌, ◌^◌, Bool, true, List, [], ◌∷◌, ◌++◌, Option}
 use Rattle.std.specs.List.{list_all}
 use Rattle.host_base.specs.declared.site.Site.{Site}
 use Rattle.host_trace.specs.declared.items.Act.{Act}
@@ -7,7 +7,9 @@ use Rattle.host_trace.specs.declared.items.Event.{Event}
 use Rattle.host_trace.specs.declared.items.Item.{Item}
 use Rattle.host_trace.specs.declared.items.Item.TheVariants.{In}
 use Rattle.host_trace.specs.Projections.{last_secs, shut_for_memory}
-use Rattle.host_trace.specs.Trace.{Step, step_of}
+use Rattle.host_trace.specs.Trace.{Step, after_step, step_of}
+use Rattle.own_traces.specs.Whose.{next_after}
+use Rattle.trace_child.specs.ChildForm.{may_be_given}
 use Rattle.trace_model.specs.Answers.{answers, begins_in_turn}
 use Rattle.trace_model.specs.Begins.{begins}
 use Rattle.trace_model.specs.Children.{ChildrenGood}
@@ -16,19 +18,21 @@ use Rattle.trace_model.specs.Exchange.{Exchange, all_of}
 use Rattle.trace_model.specs.Hears.{hears}
 use Rattle.trace_model.specs.Hops.{hops}
 use Rattle.trace_model.specs.Launches.{is_right_start}
+use Rattle.trace_model.specs.Legs.{Leg as Started}
 use Rattle.trace_model.specs.Replies.{is_silent_once_closed, replies, replies_end}
 use Rattle.trace_model.specs.Says.{says}
-use Rattle.trace_model.specs.Talks.{talks}
+use Rattle.trace_model.specs.Talks.{is_right_upgrade, talks, upgrades}
 use Rattle.trace_model.specs.Steps.{each_act, exchanges_in, goes_on}
 use Rattle.trace_model.specs.Streams.{begins_no_sooner, streams}
 use Rattle.exchange_stage.specs.Asks.{DemandsNothing}
 use Rattle.conn_marks.specs.Form.{are_given}
 use Rattle.conn_children.specs.Step.{Turn, waiting}
 use Rattle.conn_children.specs.Moves.{may_lose}
-use Rattle.conn_front.specs.Moves.{AreInStep, Move, acts_of}
+use Rattle.conn_front.specs.Moves.{AreInStep, Move, acts_of, moved}
 use Rattle.conn_core.specs.declared.conn.Conn.{Conn}
 use Rattle.conn_core.specs.Kept.{marks_of, number_of, site_of}
 use Rattle.conn_core.specs.Parts.{Answers, Handles, LetsOn, Part, ReadsOn, RoundsOn, Steps}
+use Rattle.conn_stages.specs.HeardStages.{AtRest}
 use Rattle.conn_steps.specs.Standing.{Apt, Leaves, LetOn, Quiet, Read, Rest, Standing, Within}
 
 -- ---- parts
@@ -71,12 +75,18 @@ pub record LostEnds (site : Site) (c : ℕ) (e : Exchange) : Type 0 where
   pub no_sooner : begins_no_sooner site c e ≡ true
   pub demands : DemandsNothing site c e
 
+-- what is given to a child may be given to it
+abbrev pub may_be_given_at : Exchange → Act → Bool
+may_be_given_at e act = may_be_given (all_of e) act
+
 -- The rules of a step of connection c: what is written and started, and what is due by its end. Where memory was wanting
 -- what stands is right if the connection was shut for that.
 pub record KeepsStep (site : Site) (c : ℕ) (lost : Bool) (s : Step) : Type 0 where
   pub replies_then : (lost ≡ true → shut_for_memory (all_of (goes_on site c s)) c ≡ true) → replies site c (goes_on site c s) ≡ true
   pub replies_end_then : replies_end c (exchanges_in site c s) ≡ true
   pub launches : each_act site c (is_right_start site c) s ≡ true
+  pub upgrade_acts : each_act site c (is_right_upgrade site c) s ≡ true
+  pub givings : each_act site c may_be_given_at s ≡ true
   pub in_turn : each_act site c (begins_in_turn site c) s ≡ true
   pub begins_then : begins site c (goes_on site c s) ≡ true
   pub answers_then : answers site c (goes_on site c s) ≡ true
@@ -84,6 +94,7 @@ pub record KeepsStep (site : Site) (c : ℕ) (lost : Bool) (s : Step) : Type 0 w
   pub continues_on : continues_then site c (goes_on site c s) ≡ true
   pub hears_then : hears site c (goes_on site c s) ≡ true
   pub talks_then : talks site c (goes_on site c s) ≡ true
+  pub upgrades_then : upgrades site c (goes_on site c s) ≡ true
   pub says_then : says site c (goes_on site c s) ≡ true
   pub streams_then : streams site c (goes_on site c s) ≡ true
   pub no_sooner : begins_no_sooner site c (goes_on site c s) ≡ true
@@ -96,3 +107,9 @@ StepsKeepStep = (L : List Item) (ev : Event) (e : Exchange) (old new : Conn) (n 
     → list_all (is_silent_once_closed (number_of old)) s.over ≡ true → 2 ≤ (site_of old).limits.head → stamp ≡ last_secs (L ++ In ev ∷ []) → Apt e old → Steps stamp old n moves new
     → are_given (marks_of old) (acts_of moves) ≡ true
     → AreInStep (site_of old) (number_of old) e moves × KeepsStep (site_of old) (number_of old) new.lost (step_of L ev (acts_of moves))
+
+-- .. and at their end the connection is at rest again, for the legs that were started.
+abbrev pub StepsComeToRest : Type 0
+StepsComeToRest = (L : List Item) (ev : Event) (e : Exchange) (old new : Conn) (n : ℕ) (moves : List Move) (stamp : Option ℕ) → Standing L ev [] waiting n e old → 2 ≤ (site_of old).limits.head
+    → (site_of old).limits.output < 2 ^ 64 → stamp ≡ last_secs (L ++ In ev ∷ []) → Apt e old → Steps stamp old n moves new → are_given (marks_of old) (acts_of moves) ≡ true
+    → (legs : List Started) × AtRest new (after_step L ev (acts_of moves)) (moved (site_of old) (number_of old) e moves) legs (next_after n (acts_of moves))

@@ -1,29 +1,29 @@
 -- What is known of a connection within a step, between two parts.
-use Rattle.std.specs.Prelude.{ℕ, ◌≡◌, Bool, true, false, not, ◌&&◌, ◌||◌, List, [], ◌∷◌, ◌++◌, Option, Some, None, is_some, length, ◌<◌, ◌^◌}
-use Rattle.host_base.specs.declared.cause.Cause.{Cause}
+use Rattle.std.specs.Prelude.{ℕ, ◌≡◌, Bool, true, false, not, ◌&&◌, ◌||◌, List, [], ◌∷◌, ◌++◌, Option, Some, None, is_some, length, ◌<◌, ◌^◌, ◌⊎◌, map}
 use Rattle.host_base.specs.declared.site.Site.{Site}
 use Rattle.host_trace.specs.declared.items.Act.TheVariants.{Write}
 use Rattle.host_trace.specs.declared.items.Event.{Event}
 use Rattle.host_trace.specs.declared.items.Act.{Act}
 use Rattle.host_trace.specs.declared.items.Item.{Item}
 use Rattle.host_trace.specs.declared.items.Item.TheVariants.{Out}
-use Rattle.host_trace.specs.Projections.{child_out}
+use Rattle.host_trace.specs.Projections.{child_out, shut_for_memory}
 use Rattle.own_traces.specs.Whose.{next_after}
 use Rattle.child_core.specs.declared.ending.Outcome.{Outcome}
-use Rattle.child_core.specs.declared.ending.Outcome.TheVariants.{Dropped, Failed, Gone, Output, Stopped}
+use Rattle.child_core.specs.declared.ending.Outcome.TheVariants.{Output}
 use Rattle.child_core.specs.Calls.{is_settled}
 use Rattle.child_core.specs.View.{View}
+use Rattle.trace_child.specs.ChildForm.{may_be_given}
 use Rattle.trace_model.specs.Answers.{begins_in_turn}
 use Rattle.trace_model.specs.Exchange.{Exchange, all_of, continue_text, pushed, reading, request_bytes}
 use Rattle.trace_model.specs.Exchanges.{following}
 use Rattle.trace_model.specs.Launches.{is_right_start}
 use Rattle.trace_model.specs.Legs.{Leg as Started}
 use Rattle.trace_model.specs.Readings.{is_bare}
+use Rattle.trace_model.specs.Talks.{is_right_upgrade}
 use Rattle.exchange_request.specs.Knows.{bare_of, is_looked_at, is_taken}
 use Rattle.exchange_stage.specs.declared.stage.Leg.{Leg}
 use Rattle.exchange_stage.specs.declared.stage.Stage.{Stage}
-use Rattle.exchange_stage.specs.declared.stage.Stage.TheVariants.{Finishing, Interrupted, Rejected, Running, Silent, Starting, Unstarted}
-use Rattle.exchange_stage.specs.Bodies.{HasBody}
+use Rattle.exchange_stage.specs.declared.stage.Stage.TheVariants.{Finishing, Interrupted, Rejected, Running, Starting}
 use Rattle.exchange_stage.specs.Items.{is_unanswered}
 use Rattle.exchange_stage.specs.Unanswered.{is_awaited}
 use Rattle.conn_marks.specs.View.{has_room}
@@ -37,67 +37,17 @@ use Rattle.conn_core.specs.Kept.{StandsFor, is_reading, marks_of, number_of, sit
 use Rattle.conn_core.specs.Ready.{outcome_of_run, undrained}
 use Rattle.conn_core.specs.Reasons.{ends_with, is_done_with}
 use Rattle.conn_core.specs.Settles.{is_over}
+use Rattle.conn_stages.specs.HeardStages.{HasHeard, StartsComeFirst}
+use Rattle.conn_stages.specs.Inward.{Inward}
 use Rattle.conn_stages.specs.Staged.{Lost, Staged}
 
 -- ---- of the connection alone
-
-abbrev pub IsDecided : Option View → Type 0
-IsDecided None = Unit {0}
-IsDecided (Some v) = is_some v.outcome ≡ true
-
--- the cause for which a reply that had begun can't be finished, by what decided its run
-abbrev pub CutBy : Option Outcome → Option Cause → Type 0
-CutBy (Some (Failed cause)) cut = cut ≡ Some cause
-CutBy _ cut = cut ≡ None
-
-abbrev pub CutIs : Stage → Option Outcome → Option Cause → Type 0
-CutIs Silent outcome cut = CutBy outcome cut
-CutIs _ outcome cut = cut ≡ None
-
--- its child is not settled, and no act settles it
-abbrev pub StaysRun : Option View → Type 0
-StaysRun None = Unit {0}
-StaysRun (Some v) = (v.refused ≡ false) × (v.exited ≡ false)
-
--- nobody waits for the answer of a run that came to this
-abbrev pub is_left : Option Outcome → Bool
-is_left (Some Gone) = true
-is_left (Some Stopped) = true
-is_left (Some Dropped) = true
-is_left outcome = false
-
-abbrev pub is_running : Stage → Bool
-is_running (Running leg) = true
-is_running stage = false
-
--- what its fields say of one another
-pub record Inward (conn : Conn) : Type 0 where
-  pub calm : conn.idled ≡ true → is_reading conn.stage ≡ true
-  pub accepted : is_reading conn.stage ≡ false → (marks_of conn).accepted ≡ true
-  pub http : (marks_of conn).upgraded ≡ false
-  pub lost_in : conn.lost ≡ true → (marks_of conn).accepted ≡ true
-  -- what its child, where it has one, came to is known unless its script runs
-  pub decided : conn.lost ≡ false → is_running conn.stage ≡ false → IsDecided conn.run
-  -- nobody waits for its answer only where the client is gone or the server is to end
-  pub left : conn.lost ≡ false → is_left (outcome_of_run conn.run) ≡ true → ((marks_of conn).stopped || (marks_of conn).gone) ≡ true
-  pub cut_is : conn.lost ≡ false → CutIs conn.stage (outcome_of_run conn.run) conn.cut
-  -- once it is shut its child is decided
-  pub held : (marks_of conn).shut ≡ true → IsDecided conn.run
-  -- once the request is found, all was looked at, or it was read to its end
-  pub looked : conn.lost ≡ false → is_reading conn.stage ≡ false → (is_looked_at conn.request || is_taken conn.request) ≡ true
-  -- the server is to end, or the client is gone: no exchange ends before it is shut for that
-  pub stays : conn.lost ≡ false → (marks_of conn).shut ≡ false → ((marks_of conn).stopped || (marks_of conn).gone) ≡ true → StaysRun conn.run
 
 -- memory was wanting, and the Shut that says so is to come
 abbrev pub is_early : Conn → Bool
 is_early conn = conn.lost && not (marks_of conn).shut
 
 -- ---- of its exchange
-
--- a script that waits for its turn has the body as far as it was heard
-abbrev pub BodiesAt : Site → ℕ → Exchange → Stage → Type 0
-BodiesAt site c e (Unstarted hop request) = HasBody site c e hop request
-BodiesAt site c e stage = Unit {0}
 
 -- After these acts of the step of an event the exchange e goes on, or has just ended: it is the connection's, the next
 -- child has number n, and in this turn is the last one.
@@ -109,8 +59,13 @@ pub record Standing (L : List Item) (ev : Event) (acts : List Act) (turn : Turn)
   pub staged : conn.lost ≡ false → Staged conn e legs
   pub lost : conn.lost ≡ true → Lost conn e legs
   pub children : Deals (site_of conn) (number_of conn) L ev acts e over (is_early conn) turn n legs conn.run
-  pub bodies : conn.lost ≡ false → BodiesAt (site_of conn) (number_of conn) e conn.stage
+  pub heard : conn.lost ≡ false → HasHeard conn e
   pub inward : Inward conn
+  -- of a connection that was not accepted nothing was heard
+  pub unheard : (marks_of conn).accepted ≡ false → (request_bytes (number_of conn) e ≡ []) × (e.closed ≡ false)
+  pub starts_first : StartsComeFirst e
+  -- where memory was wanting, and it is shut, it was shut for that
+  pub for_memory : conn.lost ≡ true → (marks_of conn).shut ≡ true → shut_for_memory (all_of e) (number_of conn) ≡ true
 
 -- nothing ends the connection, or something does
 abbrev pub ends_at : Conn → Exchange → Bool
@@ -215,11 +170,18 @@ pub record Quiet (e : Exchange) (conn : Conn) : Type 0 where
 
 -- ---- what a part is to keep
 
--- each Start is right, and each answer begins in its turn; and an exchange that is taken for ended follows none that closes
+-- a Start is right, an answer begins in its turn, an Upgrade is right, and what is given to a child may be given to it
+pub record IsRight (site : Site) (c : ℕ) (e : Exchange) (act : Act) : Type 0 where
+  pub start : is_right_start site c e act ≡ true
+  pub in_turn : begins_in_turn site c e act ≡ true
+  pub upgrade : is_right_upgrade site c e act ≡ true
+  pub may : may_be_given (all_of e) act ≡ true
+
+-- each act is right; and an exchange that is taken for ended follows none that closes
 abbrev pub AreRight : Site → ℕ → Exchange → List Move → Type 0
 AreRight site c e [] = Unit {0}
 AreRight site c e (gives act ∷ moves) =
-    (is_right_start site c e act ≡ true) × (begins_in_turn site c e act ≡ true) × AreRight site c (pushed e (Out act)) moves
+    IsRight site c e act × AreRight site c (pushed e (Out act)) moves
 AreRight site c e (continues d ∷ moves) =
     (begins_in_turn site c e (Write d continue_text) ≡ true) × AreRight site c (pushed e (Out (Write d continue_text))) moves
 AreRight site c e (settles ending ∷ moves) = (e.closed ≡ false) × AreRight site c (following site c e) moves
@@ -259,6 +221,10 @@ IsAwake (served may) = Unit {0}
 abbrev pub Rest : Claim
 Rest turn e conn = IsAwake turn × Quiet e conn × EvenAt (has_room (marks_of conn)) turn conn.run
 
+-- memory was wanting of a connection that was shut already, or these acts shut it for that
+abbrev pub WasShut : Conn → List Act → Type 0
+WasShut old acts = ((old.lost ≡ true) × ((marks_of old).shut ≡ true)) ⊎ (shut_for_memory (map Out acts) (number_of old) ≡ true)
+
 -- what a law on one part shows, beside what is known of every part
 pub record Makes (Post : Claim) (L : List Item) (ev : Event) (acts : List Act) (e : Exchange) (old : Conn) (n : ℕ) (moves : List Move) (new : Conn) : Type 0 where
   pub in_step : AreInStep (site_of old) (number_of old) e moves
@@ -270,6 +236,9 @@ pub record Makes (Post : Claim) (L : List Item) (ev : Event) (acts : List Act) (
   pub lost : new.lost ≡ true → Lost new (moved (site_of old) (number_of old) e moves) legs
   pub children : Deals (site_of new) (number_of new) L ev (acts ++ acts_of moves) (moved (site_of old) (number_of old) e moves) over (is_early new) turn
       (next_after n (acts_of moves)) legs new.run
-  pub bodies : new.lost ≡ false → BodiesAt (site_of new) (number_of new) (moved (site_of old) (number_of old) e moves) new.stage
+  pub heard : new.lost ≡ false → HasHeard new (moved (site_of old) (number_of old) e moves)
   pub inward : Inward new
+  pub accepted : (marks_of old).accepted ≡ true
+  pub starts_first : StartsComeFirst (moved (site_of old) (number_of old) e moves)
+  pub memory : new.lost ≡ true → (marks_of new).shut ≡ true → WasShut old (acts_of moves)
   pub post : Post turn (moved (site_of old) (number_of old) e moves) new

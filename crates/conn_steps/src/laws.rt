@@ -1,5 +1,5 @@
 // Laws of the parts of a step. Each function is one law, and does nothing.
-ghost use Rattle.conn_steps.specs.Laws.{AnswersLeave, HandlesLeave, LetsOnLeave, ReadsLeave, RoundsLeave, StepsKeepStep};
+ghost use Rattle.conn_steps.specs.Laws.{AnswersLeave, HandlesLeave, LetsOnLeave, ReadsLeave, RoundsLeave, StepsComeToRest, StepsKeepStep};
 
 /// A look at what came keeps step with the model.
 pub fn reads_leave()
@@ -29,4 +29,9 @@ pub fn rounds_leave()
 /// So does all that is done behind an event, and then the rules of the step are kept.
 pub fn steps_keep_step()
     ensures { StepsKeepStep }
+{}
+
+/// .. and the connection is at rest again.
+pub fn steps_come_to_rest()
+    ensures { StepsComeToRest }
 {}

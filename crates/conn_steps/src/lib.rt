@@ -5,5 +5,6 @@
 mod laws;
 
 pub use laws::{
-    answers_leave, handles_leave, lets_on_leave, reads_leave, rounds_leave, steps_keep_step,
+    answers_leave, handles_leave, lets_on_leave, reads_leave, rounds_leave, steps_come_to_rest,
+    steps_keep_step,
 };

@@ -1,0 +1,16 @@
+pub mod OutlineWords
+pub mod RunWords
+pub mod OwnLaws
+pub mod HeedLaws
+pub mod RestWords
+pub mod LostWords
+pub mod EofLaws
+pub mod BehindWords
+pub mod HeardRunLaws
+pub mod ClientLaws
+pub mod InwardLaws
+pub mod ShortWords
+pub mod AptLaws
+pub mod StandWords
+pub mod OverWords
+pub mod EventLaws
