@@ -1,0 +1,10 @@
+pub mod PlaceWords
+pub mod GoesLaws
+pub mod EachLaws
+pub mod ChildLaws
+pub mod HandleLaws
+pub mod HopLaws
+pub mod StillLaws
+pub mod RoundLaws
+pub mod OrderLaws
+pub mod AskLaws
