@@ -19,6 +19,7 @@ use Rattle.host_trace.specs.Projections.{own, children, start_count, accepted_co
 use Rattle.host_trace.specs.Account.{settled}
 use Rattle.host_trace.specs.Fits.{fits}
 use Rattle.host_trace.specs.Trace.{AtEachStep, after_step}
+use Rattle.trace_model.specs.Good.{begins_with_event}
 use Rattle.host_trace.specs.Told.{Adds, AddsActs}
 use Rattle.host_trace.proofs.ProjectionLaws.{stopped-push, accepted_count-push}
 use Rattle.own_traces.specs.Whose.{has, is_common, is_of, are_of}
@@ -30,7 +31,7 @@ use Rattle.host_base.specs.declared.site.Site.{Site}
 use Rattle.many_conns.specs.Kept.{is_child}
 use Rattle.all_conns.specs.declared.core_state.Core.{Core}
 use Rattle.many_conns.specs.Lists.{IsAtPlace, Lists, Mid, numbers}
-use Rattle.many_conns.specs.Apart.{owner_in}
+use Rattle.many_conns.specs.Apart.{owner_by}
 use Rattle.all_conns.specs.Owners.{AddsOne, HasNone, IsPlace, IsRest, Sound, conns, served}
 use Rattle.trace_child.specs.Words.{given, once}
 use Rattle.trace_model.specs.Between.{BetweenGood, is_slot_kept, owner_of_event, turns_away}
@@ -48,6 +49,11 @@ use Rattle.std.proofs.lemmas.List.Elements.{All-push}
 use Rattle.all_conns.proofs.FreedLaws.{clock_acts, clock_more, freed_is}
 use Rattle.many_conns.specs.Kind.{AreTicks, Gone, IsFor, Kind, Laws}
 use Rattle.many_conns.specs.declared.connection.Connection.{Ghosts}
+
+-- an event is the first item, and stays so
+begun_step : (T : List Item) (event : Event) (acts : List Act) (U : List Item) → U ≡ after_step T event acts → begins_with_event T ≡ true → begins_with_event U ≡ true
+begun_step [] event acts U grew begun = ap begins_with_event grew
+begun_step (x ∷ T) event acts U grew begun = ap begins_with_event grew ∙ begun
 
 module _ {C : Type 0} {G : Ghosts C} (laws : Laws G.kind) where
   abbrev K : Kind C
@@ -87,11 +93,11 @@ module _ {C : Type 0} {G : Ghosts C} (laws : Laws G.kind) where
     pub within : i < length (conns core)
     pub mine : (d : C) → is_of (K.number_of (get_or (conns core) i d)) (children T (K.number_of (get_or (conns core) i d))) (start_count T) (In event) ≡ true
 
-  child_found : (core : Core C G) (T : List Item) (i k : ℕ) → Stands core T → i < length (conns core) → ((d : C) → is_child (K.child_of (get_or (conns core) i d)) k ≡ true) →
+  child_found : (core : Core C G) (T : List Item) (i k : ℕ) → Stands core T → i < length (conns core) → ((d : C) → is_child (K.kid_of (get_or (conns core) i d)) k ≡ true) →
       (d : C) → has (children T (K.number_of (get_or (conns core) i d))) k ≡ true
   child_found core T i k s lt h d =
       ap (λ ks. has ks k) (sym (children-own T (K.number_of (get_or (conns core) i d)) s.lists.between))
-      ∙ has_own K laws (served core) (get_or (conns core) i d) (own T (K.number_of (get_or (conns core) i d))) k (s.lists.live i d lt) (h d)
+      ∙ laws.kid_started (served core) (get_or (conns core) i d) (own T (K.number_of (get_or (conns core) i d))) k (s.lists.live i d lt) (h d)
 
   pub found : (core : Core C G) (T : List Item) (i : ℕ) (event : Event) → Stands core T → IsPlace core event i → Found core T event i
   found core T i (ClientBytes d bytes) s p = record { within = p.within; mine = λ x. or_left _ _ (eq-eqb (K.number_of (get_or (conns core) i x)) d (p.is x)) }
@@ -149,6 +155,7 @@ module _ {C : Type 0} {G : Ghosts C} (laws : Laws G.kind) where
       let lists = mid_ends K laws site (λ j. false) limit event (set xs i sv.now) U st.turn.mid (λ j lt. refl) in
       let same_site : served new ≡ site = fr.rest.site ∙ sv.site in
       record {
+        begun = begun_step T event st.turn.acts U st.turn.grew s.begun;
         held = subst (Each (λ x. K.needs x ≡ true)) (sym items) (filter_passes K.needs (set xs i sv.now));
         lists = subst (λ t. Lists K t (conns new) U) (sym same_site) (subst (λ xs. Lists K site xs U) (sym items) (freed K laws site (set xs i sv.now) U lists));
         between = subst (λ q. AtEachStep (BetweenGood q) U) (sym same_site) (one_between K laws site (λ j. false) (i + 1) event (set xs i sv.now) T U (K.number_of x) st.turn b known special is
@@ -166,8 +173,8 @@ module _ {C : Type 0} {G : Ghosts C} (laws : Laws G.kind) where
     pub c : ℕ
     pub known : c < accepted_count T
     pub mine : is_of c (children T c) (start_count T) (In event) ≡ true
-    -- it K.needs no slot, or its child is settled
-    pub how : (has (numbers K (conns core)) c ≡ false) ⊎ ((k : ℕ) × (names_child k (In event) ≡ true) × (owner_in K (conns core) k ≡ None))
+    -- it needs no slot, or the child is not that of its run
+    pub how : (has (numbers K (conns core)) c ≡ false) ⊎ ((k : ℕ) × (names_child k (In event) ≡ true) × (owner_by K K.kid_of (conns core) k ≡ None))
 
   pub late_lists : (core : Core C G) (T : List Item) (limit : ℕ) (event : Event) → Sound core → Stands core T → is_common (In event) ≡ false → fits limit T event ≡ true →
       Missed core T event → Lists K (served core) (conns core) (T ++ In event ∷ [])
@@ -188,7 +195,7 @@ module _ {C : Type 0} {G : Ghosts C} (laws : Laws G.kind) where
                   let mine : is_of (K.number_of y) (children T (K.number_of y)) (start_count T) (In event) ≡ true = subst (λ (n : ℕ). is_of n (children T n) (start_count T) (In event) ≡ true) (sym same) m.mine in
                   subst (λ l. K.stands (served core) y l) (sym (subst (λ (n : ℕ). own V n ≡ own T n ++ In event ∷ []) (sym same) h.mine))
                   (laws.late (served core) y (own T (K.number_of y)) limit (start_count T) (last_secs (T ++ In event ∷ [])) settled.0 event (s.lists.live j d lt) (fitting-own K laws limit T (K.number_of y) event b special mine f (subst (λ n. n < accepted_count T) (sym same) m.known)) settled.1
-                  (none_has K laws K.child_of xs j settled.0 d settled.2 lt))
+                  (none_has K laws K.kid_of xs j settled.0 d settled.2 lt))
               | inr other ↦ subst (λ l. K.stands (served core) (get_or xs j d) l) (sym (h.others _ other)) (s.lists.live j d lt)
             ];
             gone = λ e lt absent.
@@ -209,6 +216,7 @@ module _ {C : Type 0} {G : Ghosts C} (laws : Laws G.kind) where
   missed_stands core T limit event sound s special f m =
       let lists = late_lists core T limit event sound s special f m in
       record {
+        begun = begun_step T event [] (T ++ In event ∷ []) refl s.begun;
         held = s.held;
         lists = lists;
         between = quiet_between K laws (served core) T event (not_accepted (In event) special) s.between;
@@ -223,7 +231,7 @@ module _ {C : Type 0} {G : Ghosts C} (laws : Laws G.kind) where
   conn_missed core T limit event c s f n is none = record { c = c; known = fits-known limit T event c s.lists.between f n; mine = is; how = inl none }
 
   child_missed : (core : Core C G) (T : List Item) (limit : ℕ) (event : Event) (k : ℕ) → Stands core T → fits limit T event ≡ true → names_child k (In event) ≡ true →
-      ((c : ℕ) → has (children T c) k ≡ true → is_of c (children T c) (start_count T) (In event) ≡ true) → owner_in K (conns core) k ≡ None → Missed core T event
+      ((c : ℕ) → has (children T c) k ≡ true → is_of c (children T c) (start_count T) (In event) ≡ true) → owner_by K K.kid_of (conns core) k ≡ None → Missed core T event
   child_missed core T limit event k s f n is none =
       let o = s.lists.between.owned k (fits-started limit T event k s.lists.between f n) in
       record { c = o.owner; known = o.known; mine = is o.owner o.is; how = inr (k, n, none) }
@@ -308,6 +316,7 @@ module _ {C : Type 0} {G : Ghosts C} (laws : Laws G.kind) where
       let owner : owner_of_event T (Accepted peer) ≡ Some (K.number_of x) = ap Some (sym (ap K.number_of last_is ∙ (adds.number ∙ s.accepted))) in
       let new_site : served new ≡ site = fr.rest.site ∙ (sv.site ∙ same_site) in
       record {
+        begun = begun_step T (Accepted peer) st.turn.acts U st.turn.grew s.begun;
         held = subst (Each (λ x. K.needs x ≡ true)) (sym items) (filter_passes K.needs (set ys last sv.now));
         lists = subst (λ q. Lists K q (conns new) U) (sym new_site) (subst (λ zs. Lists K site zs U) (sym items) (freed K laws site (set ys last sv.now) U lists));
         between = subst (λ q. AtEachStep (BetweenGood q) U) (sym new_site)
@@ -377,6 +386,7 @@ module _ {C : Type 0} {G : Ghosts C} (laws : Laws G.kind) where
         later = λ j d le lt. absurd (omega (arith, le, lt));
       } in
       record {
+        begun = begun_step T (Accepted peer) acts U t.grew s.begun;
         held = subst (Each (λ x. K.needs x ≡ true)) (sym adds.kept) s.held;
         lists = subst (λ q. Lists K q (conns new) U) (sym adds.site) (subst (λ ys. Lists K site ys U) (sym adds.kept) (subst (Lists K site xs) (sym grew) lists));
         between = subst (λ q. AtEachStep (BetweenGood q) U) (sym adds.site)
@@ -482,6 +492,7 @@ module _ {C : Type 0} {G : Ghosts C} (laws : Laws G.kind) where
       let lists = mid_ends K laws site (λ j. leb i j) site.limits.children event (conns now) U r.turn.mid (λ j lt. lt-leb i j (omega (arith, lt, end))) in
       let new_site : served new ≡ site = rest.site ∙ (same.site ∙ n.site) in
       record {
+        begun = begun_step T event r.turn.acts U r.turn.grew s.begun;
         held = subst (Each (λ x. K.needs x ≡ true)) (sym kept) (filter_passes K.needs (conns now));
         lists = subst (λ q. Lists K q (conns new) U) (sym new_site) (subst (λ xs. Lists K site xs U) (sym kept) (freed K laws site (conns now) U lists));
         between = subst (λ q. AtEachStep (BetweenGood q) U) (sym new_site) (common_between K laws site (λ j. leb i j) i event (conns now) T U r.turn (of_all secs T) (none_accepted secs) (common_heard secs T s.lists.between) s.between);
@@ -513,7 +524,7 @@ module _ {C : Type 0} {G : Ghosts C} (laws : Laws G.kind) where
   for_named : (core : Core C G) (c i : ℕ) (event : Event) → IsAtPlace K (conns core) c i → names c (In event) ≡ true → (d : C) → IsFor K (get_or (conns core) i d) event
   for_named core c i event at n d = inl (ap (λ (m : ℕ). names m (In event)) (at.is d) ∙ n)
 
-  for_child : (core : Core C G) (k i : ℕ) (event : Event) → (i < length (conns core)) × ((d : C) → is_child (K.child_of (get_or (conns core) i d)) k ≡ true) → names_child k (In event) ≡ true
+  for_child : (core : Core C G) (k i : ℕ) (event : Event) → (i < length (conns core)) × ((d : C) → is_child (K.kid_of (get_or (conns core) i d)) k ≡ true) → names_child k (In event) ≡ true
       → (d : C) → IsFor K (get_or (conns core) i d) event
   for_child core k i event at n d = inr (k, n, at.1 d)
 

@@ -6,12 +6,13 @@ use Rattle.host_trace.specs.declared.items.Event.{Event}
 use Rattle.host_trace.specs.declared.items.Item.{Item}
 use Rattle.host_trace.specs.declared.items.Item.TheVariants.{In}
 use Rattle.own_traces.specs.Whose.{has}
+use Rattle.reply_writer.specs.WholeRules.{IsStamp}
 use Rattle.child_table.specs.Held.{cap_of}
 use Rattle.many_conns.specs.Kept.{is_child}
 use Rattle.many_conns.specs.Kind.{AreTicks}
 use Rattle.many_conns.specs.declared.connection.Connection.{Ghosts}
 use Rattle.many_conns.specs.Lists.{IsAtPlace, numbers}
-use Rattle.many_conns.specs.Apart.{AreSound, owner_in}
+use Rattle.many_conns.specs.Apart.{AreSound, owner_by}
 use Rattle.live_conns.specs.Live.{conns_of, cap_of as live_cap}
 use Rattle.all_conns.specs.Names.{named_by}
 use Rattle.all_conns.specs.declared.named.Named.{Named}
@@ -34,13 +35,14 @@ pub record Sound {C : Type 0} {G : Ghosts C} (core : Core C G) : Type 0 where
   pub room : live_cap core.live ≡ most_of core
   pub few : length (conns core) ≤ most_of core
   pub site_good : IsServed (served core)
+  pub clock_good : IsStamp core.clock
 
 -- ---- what an event finds
 
--- no connection is to hear it: that which it names G.kind.needs no slot, or the child which it names is settled
+-- no connection is to hear it: that which it names needs no slot, or the child which it names is that of no run
 abbrev pub HasNoneBy : {C : Type 0} → {G : Ghosts C} → Core C G → Named → Type 0
 HasNoneBy {C} {G} core (Connection c) = has (numbers G.kind (conns core)) c ≡ false
-HasNoneBy {C} {G} core (Child k) = owner_in G.kind (conns core) k ≡ None
+HasNoneBy {C} {G} core (Child k) = owner_by G.kind G.kind.kid_of (conns core) k ≡ None
 HasNoneBy {C} {G} core Nobody = Unit {0}
 
 abbrev pub HasNone : {C : Type 0} → {G : Ghosts C} → Core C G → Event → Type 0
@@ -48,7 +50,7 @@ HasNone core event = HasNoneBy core (named_by (In event))
 
 abbrev pub IsPlaceBy : {C : Type 0} → {G : Ghosts C} → Core C G → Named → ℕ → Type 0
 IsPlaceBy {C} {G} core (Connection c) i = IsAtPlace G.kind (conns core) c i
-IsPlaceBy {C} {G} core (Child k) i = (i < length (conns core)) × ((d : C) → is_child (G.kind.child_of (slice_index_or (conns core) i d)) k ≡ true)
+IsPlaceBy {C} {G} core (Child k) i = (i < length (conns core)) × ((d : C) → is_child (G.kind.kid_of (slice_index_or (conns core) i d)) k ≡ true)
 IsPlaceBy {C} {G} core Nobody i = ⊥
 
 abbrev pub IsPlace : {C : Type 0} → {G : Ghosts C} → Core C G → Event → ℕ → Type 0

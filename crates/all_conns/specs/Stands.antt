@@ -13,6 +13,7 @@ use Rattle.host_trace.specs.Trace.{AtEachStep}
 use Rattle.many_conns.specs.Kind.{Gives, Kind}
 use Rattle.many_conns.specs.declared.connection.Connection.{Ghosts}
 use Rattle.many_conns.specs.Lists.{Lists}
+use Rattle.trace_model.specs.Good.{begins_with_event}
 use Rattle.trace_model.specs.Between.{BetweenGood}
 use Rattle.all_conns.specs.Owners.{IsRest, conns, served}
 use Rattle.all_conns.specs.declared.core_state.Core.{Core}
@@ -20,12 +21,14 @@ use Rattle.all_conns.specs.declared.core_state.Core.{Core}
 -- ---- the promise: each connection's part, read off its own list, and the part between connections
 
 pub record Good {C : Type 0} (K : Kind C) (site : Site) (T : List Item) : Type 0 where
+  pub begun : begins_with_event T ≡ true
   pub parts : (c : ℕ) → c < accepted_count T → AtEachStep (K.is_good site c) (own T c)
   pub between : AtEachStep (BetweenGood site) T
 
 -- ---- what the core stands for
 
 pub record Stands {C : Type 0} {G : Ghosts C} (core : Core C G) (T : List Item) : Type 0 where
+  pub begun : begins_with_event T ≡ true
   pub lists : Lists G.kind (served core) (conns core) T
   pub between : AtEachStep (BetweenGood (served core)) T
   pub accepted : core.accepted ≡ accepted_count T

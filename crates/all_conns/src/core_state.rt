@@ -3,7 +3,7 @@ ghost use Rattle.std.specs.Prelude.{◌≡◌, ◌∷◌, [], true};
 ghost use Rattle.host_trace.specs.Told.{Adds, carries_nothing};
 ghost use Rattle.all_conns.specs.Stands.{common_event};
 
-use crate::keep::keep;
+use crate::keep::{is_child, keep};
 use crate::named::{Named, named_of};
 use child_table::Table;
 use host_base::{NoMemory, Peer, Site};
@@ -58,11 +58,13 @@ impl<'s, C: Connection> Core<'s, C> {
     ghost use Rattle.host_trace.specs.declared.items.Why.TheVariants.{Full};
     ghost use Rattle.host_trace.specs.Account.{all_settled, slots_held};
     ghost use Rattle.host_base.specs.SiteRules.{IsServed};
+    ghost use Rattle.reply_writer.specs.WholeRules.{IsStamp};
     ghost use Rattle.host_trace.specs.Projections.{stopped};
     ghost use Rattle.host_trace.specs.Told.{AddsActs, Adds};
     ghost use Rattle.own_traces.specs.Whose.{has, is_common};
-    ghost use Rattle.all_conns.specs.Owners.{AddsOne, Counts, HasNone, IsPlace, IsRest, Sound, conns, most_of, served};
+    ghost use Rattle.all_conns.specs.Owners.{AddsOne, Counts, HasNone, HasNoneBy, IsPlace, IsPlaceBy, IsRest, Sound, conns, most_of, served};
     ghost use Rattle.all_conns.specs.Stands.{FreedAt, Ignores, Noted, Serves, Stands, Steps, common_event};
+    ghost use Rattle.all_conns.specs.declared.named.Named.TheVariants.{Child};
 
     /// Whether Stop was heard.
     pub fn stopped(&self) -> bool
@@ -100,7 +102,7 @@ impl<'s, C: Connection> Core<'s, C> {
         }
     }
 
-    // The place of the connection that an event is for: that it names, or that has the child which it names.
+    // The place of the connection that an event is for: that it names, or whose run has the child which it names.
     fn place(&self, ev: &Event) -> Option<usize>
         requires { Sound self.now }
         ensures { MatchOption result (HasNone self.now ev.now) (IsPlace self.now ev.now) }
@@ -109,10 +111,23 @@ impl<'s, C: Connection> Core<'s, C> {
             Named::Connection(c) => self.live.find(c),
             Named::Child(k) => match self.table.owner(k) {
                 Some(c) => self.live.find(c),
-                None => None,
+                None => self.place_of_kid(k),
             },
             Named::Nobody => None,
         }
+    }
+
+    // The place of the connection whose run has this child, which is settled: of one that is the table knows nothing.
+    fn place_of_kid(&self, k: u64) -> Option<usize>
+        ensures { MatchOption result (HasNoneBy self.now (Child k)) (IsPlaceBy self.now (Child k)) }
+    {
+        let count = self.live.len();
+        for i in 0..count {
+            if is_child(self.live.get(i).kid(), k) {
+                return Some(i);
+            }
+        }
+        None
     }
 
     /// Whether all slots are held.
@@ -203,7 +218,8 @@ impl<'s, C: Connection> Core<'s, C> {
 
     // A Tick or Stop is noted.
     fn note(&mut self, secs: Option<u64>)
-        requires { Sound self.old }
+        requires stamp { IsStamp secs }
+        requires sound { Sound self.old }
         ensures noted { Noted self.old self.new (common_event secs) }
         ensures sound { Sound self.new }
     {
@@ -215,7 +231,8 @@ impl<'s, C: Connection> Core<'s, C> {
 
     // A Tick or Stop is heard by all, by rising number.
     fn all<O: Outside>(&mut self, secs: Option<u64>, out: &mut O)
-        requires { Sound self.old }
+        requires stamp { IsStamp secs }
+        requires sound { Sound self.old }
         ensures stands { Steps self.old (common_event secs) (O.trace out.old) self.new (O.trace out.new) }
         ensures sound { Sound self.new }
         ensures told { AddsActs (O.trace out.old) (O.trace out.new) }

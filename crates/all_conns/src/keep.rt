@@ -5,7 +5,7 @@ ghost use Rattle.many_conns.specs.Kept.{is_child, kept, one_if};
 
 use child_table::{Mark, Table};
 
-fn is_child(child: Option<u64>, k: u64) -> bool
+pub(crate) fn is_child(child: Option<u64>, k: u64) -> bool
     ensures { result ≡ is_child child k }
 {
     match child {

@@ -31,6 +31,7 @@ impl<C: Connection> Live<C> {
     ghost use Rattle.std.specs.List.{All, remove};
     ghost use Rattle.own_traces.specs.Whose.{has};
     ghost use Rattle.host_base.specs.SiteRules.{IsServed};
+    ghost use Rattle.reply_writer.specs.WholeRules.{IsStamp};
     ghost use Rattle.many_conns.specs.Lists.{IsAtPlace, numbers};
     ghost use Rattle.live_conns.specs.Live.{StepsAt, cap_of, conns_of};
 
@@ -100,6 +101,7 @@ impl<C: Connection> Live<C> {
         out: &mut O,
     ) -> bool
         requires place { i < length (conns_of self.old) }
+        requires stamp { IsStamp now }
         requires served { All (λ x. IsServed (C.kind.site_of x)) (conns_of self.old) }
         ensures steps { StepsAt C.kind i ev now (conns_of self.old) children.old (O.trace out.old) (conns_of self.new) children.new (O.trace out.new) }
         ensures needs { (d : C) → result ≡ C.kind.needs (slice_index_or (conns_of self.new) i d) }

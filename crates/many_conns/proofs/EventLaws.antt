@@ -2,7 +2,7 @@
 use Rattle.std.proofs.Common.{◌≡◌, ◌≢◌, ℕ, ◌+◌, ◌<◌, ◌≤◌, Bool, true, false, List, [], ◌∷◌, ◌++◌, refl, sym, ◌∙◌, ap, subst, arith, inl, inr, length, get_or, leb}
 use Rattle.std.specs.Prelude.{◌==◌, ◌||◌, not, filter}
 use Rattle.std.specs.List.{AllByRecursion}
-use Rattle.std.proofs.lemmas.Bool.{cases_Bool, cases_eq, or_from, or_left, or_right, or_parts, and_from, eqb-true, eq-eqb, ne_eqb, false≢true, cond-true, cond-false, not-true, le-leb}
+use Rattle.std.proofs.lemmas.Bool.{cases_Bool, cases_eq, or_from, or_left, or_right, or_parts, and_from, eqb-true, eq-eqb, ne_eqb, false≢true, cond-true, cond-false, not-true, le-leb, lt-ltb}
 use Rattle.std.proofs.lemmas.List.{get_or_default, get_or_append_left, get_or_at, length-append}
 use Rattle.std.proofs.lemmas.List.Elements.{All-filter, recursion_from_All}
 use Rattle.host_base.specs.declared.site.Site.{Site}
@@ -11,7 +11,7 @@ use Rattle.host_trace.specs.declared.items.Event.{Event}
 use Rattle.host_trace.specs.declared.items.Event.TheVariants.{Accepted, Tick, Stop}
 use Rattle.host_trace.specs.declared.items.Item.{Item}
 use Rattle.host_trace.specs.declared.items.Item.TheVariants.{In}
-use Rattle.host_trace.specs.Kinds.{names_child, is_accepted, is_tick, is_stop}
+use Rattle.host_trace.specs.Kinds.{names_child, is_accepted, is_stop}
 use Rattle.host_trace.specs.Projections.{own, children, start_count, accepted_count, stopped, last_secs}
 use Rattle.host_trace.specs.Fits.{fits}
 use Rattle.host_trace.proofs.ProjectionLaws.{stopped-push, accepted_count-push}
@@ -25,7 +25,7 @@ use Rattle.own_traces.proofs.ViewLaws.{is_of-plain, is_own-named}
 use Rattle.many_conns.specs.Lists.{AreRising, AtMid, Lists, Mid, Waits, numbers}
 use Rattle.own_traces.proofs.FitLaws.{fits-own}
 use Rattle.many_conns.proofs.ListsLaws.{numbers_differ, has-number, at_false}
-use Rattle.many_conns.specs.Kind.{AreTicks, Fitting, Gone, Kind, Laws}
+use Rattle.many_conns.specs.Kind.{AreTicks, Fitting, Gone, Kind, Laws, is_clock_tick}
 
 module _ {C : Type 0} (K : Kind C) (laws : Laws K) where
   at_true : (site : Site) (b : Bool) (limit : ℕ) (event : Event) (x : C) (L : List Item) → b ≡ true → Waits K site limit event x L → AtMid K b site limit event x L
@@ -51,6 +51,10 @@ module _ {C : Type 0} (K : Kind C) (laws : Laws K) where
       → last_secs (T ++ In event ∷ []) ≡ last_secs (own T c ++ In event ∷ [])
   clock_own T c event b mine after = sym (says (T ++ In event ∷ []) c after).clock ∙ ap last_secs mine
 
+  -- a connection that is known was accepted
+  pub told_by : (V : List Item) (c : ℕ) (L : List Item) → Between V → c < accepted_count V → own V c ≡ L → was_accepted L ≡ true
+  told_by V c L b known is = ap was_accepted (sym is) ∙ (b.accepts c ∙ lt-ltb c (accepted_count V) known)
+
   pub fitting-own : (limit : ℕ) (T : List Item) (c : ℕ) (event : Event) → Between T → is_common (In event) ≡ false →
       is_of c (children T c) (start_count T) (In event) ≡ true → fits limit T event ≡ true → c < accepted_count T
       → Fitting limit c (start_count T) (last_secs (T ++ In event ∷ [])) (own T c) event
@@ -59,6 +63,7 @@ module _ {C : Type 0} (K : Kind C) (laws : Laws K) where
       record {
         mine = or_right _ _ (subst (λ ks. is_of c ks (start_count T) (In event) ≡ true) (sym (children-own T c b)) is);
         fits = own_fits limit T c event b special is f;
+        told = told_by (T ++ In event ∷ []) c _ h.between (subst (λ n. c < n) (sym (accepted_count-same T (In event) (not_accepted (In event) special))) known) h.mine;
         fresh = λ k le. any_own (names_child k) T c (b.named k le);
         clock = clock_own T c event b h.mine h.between;
       }
@@ -144,20 +149,20 @@ module _ {C : Type 0} (K : Kind C) (laws : Laws K) where
         gone = λ c lt absent.
             subst (λ l. Gone K site c l) (sym (all c))
             (laws.idle site c (own T c) limit (start_count T) (last_secs (T ++ In event ∷ [])) event (l.gone c (subst (λ n. c < n) count lt) absent)
-            (record { mine = or_left _ _ common; fits = f c; fresh = λ k le. any_own (names_child k) T c (l.between.named k le); clock = clock_own T c event l.between (all c) between }));
+            (record { mine = or_left _ _ common; fits = f c; told = told_by (T ++ In event ∷ []) c _ between lt (all c); fresh = λ k le. any_own (names_child k) T c (l.between.named k le); clock = clock_own T c event l.between (all c) between }));
         fresh = λ c le go. subst AreTicks (sym (all c)) (ticks c (subst (λ n. n ≤ c) count le) go);
         known = λ j d ltj. subst (λ n. (K.number_of (get_or conns j d)) < n) (sym count) (l.known j d ltj);
         between = between;
       }
 
-  ticks-push : (L : List Item) (x : Item) → is_tick x ≡ true → AreTicks L → AreTicks (L ++ x ∷ [])
+  ticks-push : (L : List Item) (x : Item) → is_clock_tick x ≡ true → AreTicks L → AreTicks (L ++ x ∷ [])
   ticks-push [] x e ticks = (e, tt)
   ticks-push (y ∷ L) x e ticks = (ticks.0, ticks-push L x e ticks.1)
 
   pub tick_begins : (site : Site) (limit secs : ℕ) (conns : List C) (T : List Item) → Lists K site conns T → fits limit T (Tick secs) ≡ true → Mid K (λ j. leb 0 j) site limit (Tick secs) conns (T ++ In (Tick secs) ∷ [])
   tick_begins site limit secs conns T l f =
       all_begin site limit (Tick secs) conns T l (own-tick T secs) refl refl (between-nobody T (Tick secs) l.between (λ c. refl) (λ k. refl)) (λ c. f)
-      (λ c le go. ticks-push (own T c) (In (Tick secs)) refl (l.fresh c le (was_going T (In (Tick secs)) go)))
+      (λ c le go. ticks-push (own T c) (In (Tick secs)) f (l.fresh c le (was_going T (In (Tick secs)) go)))
 
   pub stop_begins : (site : Site) (limit : ℕ) (conns : List C) (T : List Item) → Lists K site conns T → fits limit T Stop ≡ true → Mid K (λ j. leb 0 j) site limit Stop conns (T ++ In Stop ∷ [])
   stop_begins site limit conns T l f =
@@ -174,7 +179,7 @@ module _ {C : Type 0} (K : Kind C) (laws : Laws K) where
       let one = tick_quiet x ticks.0 in
       (or_from _ _ one.0 rest.0, or_from _ _ one.1 rest.1)
     where
-      tick_quiet : (x : Item) → is_tick x ≡ true → (is_stop x ≡ false) × (is_accepted x ≡ false)
+      tick_quiet : (x : Item) → is_clock_tick x ≡ true → (is_stop x ≡ false) × (is_accepted x ≡ false)
       tick_quiet (In (Tick secs)) e = (refl, refl)
       tick_quiet (In Stop) e = absurd (cc)
       tick_quiet (In (Accepted peer)) e = absurd (cc)

@@ -2,7 +2,7 @@
 use Rattle.std.proofs.Common.{◌≡◌, ◌≢◌, ℕ, suc, zero, ◌<◌, ◌≤◌, Bool, true, false, List, [], ◌∷◌, ◌++◌, map, refl, sym, ◌∙◌, ap, subst, append_assoc, arith, inl, inr, length, get_or, set}
 use Rattle.std.specs.Prelude.{◌==◌, ◌||◌}
 use Rattle.std.specs.List.{list_any}
-use Rattle.std.proofs.lemmas.Bool.{cases_eq, cases_order, or_left, or_right, or_parts, eq-eqb, false≢true}
+use Rattle.std.proofs.lemmas.Bool.{cases_eq, cases_order, or_left, or_right, or_parts, eq-eqb, false≢true, lt-ltb}
 use Rattle.std.proofs.lemmas.List.{get_or-set_same, get_or-set_other, length-set, get_or_default}
 use Rattle.std.proofs.lemmas.List.Folds.{list_any-append}
 use Rattle.host_base.specs.declared.site.Site.{Site}
@@ -14,6 +14,7 @@ use Rattle.host_trace.specs.Kinds.{names_child, is_stop}
 use Rattle.host_trace.specs.Projections.{own, children, start_count, accepted_count, stopped, last_secs}
 use Rattle.own_traces.specs.Whose.{has, is_common, is_of, are_of}
 use Rattle.own_traces.specs.Moved.{Moved}
+use Rattle.own_traces.specs.OwnFits.{was_accepted}
 use Rattle.own_traces.proofs.BetweenLaws.{any_own, no_child_more}
 use Rattle.own_traces.proofs.BlockLaws.{moved}
 use Rattle.own_traces.proofs.SameLaws.{children-own, says}
@@ -96,6 +97,7 @@ module _ {C : Type 0} (K : Kind C) (laws : Laws K) where
       let fitting : Fitting limit c (start_count V) (last_secs V) w.was event = record {
         mine = subst (λ ks. (is_common (In event) || is_of c ks (start_count V) (In event)) ≡ true) (sym kids) mine;
         fits = w.fits;
+        told = ap was_accepted (sym w.grew) ∙ (b.accepts c ∙ lt-ltb c (accepted_count V) (subst (λ y. (K.number_of y) < accepted_count V) (sym at) (m.known i x lt)));
         fresh = λ k le.
             (or_parts (list_any (names_child k) w.was) (list_any (names_child k) (In event ∷ []))
             (sym (list_any-append (names_child k) w.was (In event ∷ []))

@@ -1,5 +1,5 @@
 -- Which connection has which child, after a step, an Accepted, and a slot given back.
-use Rattle.std.proofs.Common.{◌≡◌, ℕ, suc, zero, ◌<◌, true, false, List, [], ◌∷◌, Option, Some, None, sym, ◌∙◌, ap, subst, arith, inl, inr, length, get_or, set}
+use Rattle.std.proofs.Common.{◌≡◌, ℕ, suc, zero, ◌<◌, true, false, List, [], ◌∷◌, Option, Some, None, refl, sym, ◌∙◌, ap, subst, arith, inl, inr, length, get_or, set}
 use Rattle.std.proofs.lemmas.Bool.{cases_Bool, cond-true, cond-false}
 use Rattle.many_conns.specs.Kept.{is_child, kept}
 use Rattle.many_conns.specs.Apart.{owner_by}
@@ -36,7 +36,13 @@ module _ {C : Type 0} (K : Kind C) (laws : Laws K) where
           | inr e ↦ cond-false (is_child (f x) k) (Some (K.number_of x)) (owner_by K f conns k) e ∙ later
         ]
 
-    -- where there is none, none of them has it
+    -- where none of them has it there is none
+    pub none_owned : (conns : List C) (k : ℕ) → ((j : ℕ) (d : C) → j < length conns → is_child (f (get_or conns j d)) k ≡ false) → owner_by K f conns k ≡ None
+    none_owned [] k none = refl
+    none_owned (x ∷ conns) k none =
+        cond-false (is_child (f x) k) (Some (K.number_of x)) (owner_by K f conns k) (none 0 x (omega arith)) ∙ none_owned conns k (λ j d lt. none (suc j) d (omega (arith, lt)))
+
+    -- .. and the other way round
     pub none_has : (conns : List C) (i k : ℕ) (d : C) → owner_by K f conns k ≡ None → i < length conns → is_child (f (get_or conns i d)) k ≡ false
     none_has [] i k d e lt = absurd (omega arith)
     none_has (x ∷ conns) zero k d e lt = elim (cases_Bool (is_child (f x) k)) [

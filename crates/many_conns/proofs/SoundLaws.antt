@@ -393,17 +393,17 @@ module _ {C : Type 0} (K : Kind C) (laws : Laws K) where
 
   pub place_of : (site : Site) (xs : List C) (n accepted : ℕ) (table : Table) (k c : ℕ) → AreSound K site xs accepted n table → owner_of table k ≡ Some c → (r : Option ℕ)
       → MatchOption r (has (numbers K xs) c ≡ false) (IsAtPlace K xs c)
-      → MatchOption r (owner_in K xs k ≡ None) (λ i. (i < length xs) × ((d : C) → is_child (K.child_of (get_or xs i d)) k ≡ true))
+      → MatchOption r (owner_by K K.kid_of xs k ≡ None) (λ i. (i < length xs) × ((d : C) → is_child (K.kid_of (get_or xs i d)) k ≡ true))
   place_of site xs n accepted table k c s own None none =
       let one = one_has K laws K.child_of xs k c (sym (s.owners k) ∙ own) in
       absurd (none_numbered xs one.place c one.within one.number none)
   place_of site xs n accepted table k c s own (Some i) at =
       let one = one_has K laws K.child_of xs k c (sym (s.owners k) ∙ own) in (
         at.within,
-        λ d. elim (cases_eq i one.place) [
+        λ d. laws.child_kid (get_or xs i d) k (elim (cases_eq i one.place) [
           | inl same ↦ ap (λ j. is_child (K.child_of (get_or xs j d)) k) same ∙ one.child d
           | inr other ↦ absurd (numbers_differ K laws xs one.place i d s.rising one.within at.within other (at.is d ∙ sym (one.number d)))
-        ],
+        ]),
       )
 
   -- two reads at one place read one

@@ -5,18 +5,19 @@ use Rattle.std.specs.Option.{option_to_list}
 use Rattle.host_base.specs.declared.launch.Peer.{Peer}
 use Rattle.host_base.specs.declared.site.Site.{Site}
 use Rattle.host_trace.specs.declared.items.Event.{Event}
-use Rattle.host_trace.specs.declared.items.Event.TheVariants.{Accepted}
+use Rattle.host_trace.specs.declared.items.Event.TheVariants.{Accepted, Tick}
 use Rattle.host_trace.specs.declared.items.Act.{Act}
 use Rattle.host_trace.specs.declared.items.Act.TheVariants.{Shut}
 use Rattle.host_trace.specs.declared.items.Why.TheVariants.{Full}
 use Rattle.host_trace.specs.declared.items.Item.{Item}
 use Rattle.host_trace.specs.declared.items.Item.TheVariants.{In, Out}
 use Rattle.host_trace.specs.Account.{settled}
-use Rattle.host_trace.specs.Kinds.{is_tick, names, names_child}
+use Rattle.host_trace.specs.Fits.{is_clock}
+use Rattle.host_trace.specs.Kinds.{names, names_child}
 use Rattle.host_trace.specs.Projections.{children, shut, last_secs}
 use Rattle.host_trace.specs.Told.{Adds}
 use Rattle.host_trace.specs.Trace.{Step, after_step, AtEachStep}
-use Rattle.own_traces.specs.OwnFits.{fits_own}
+use Rattle.own_traces.specs.OwnFits.{fits_own, was_accepted}
 use Rattle.own_traces.specs.Whose.{has, is_common, is_of, are_of, kids_after, next_after}
 use Rattle.trace_child.specs.Words.{given}
 use Rattle.trace_model.specs.Between.{turns_away}
@@ -38,9 +39,14 @@ pub record Kind (C : Type 0) : Type 1 where
 
 -- ---- its list
 
+-- a Tick that may come
+abbrev pub is_clock_tick : Item → Bool
+is_clock_tick (In (Tick secs)) = is_clock secs
+is_clock_tick x = false
+
 -- before its Accepted there are Ticks alone
 abbrev pub AreTicks : List Item → Type 0
-AreTicks L = AllByRecursion (λ x. is_tick x ≡ true) L
+AreTicks L = AllByRecursion (λ x. is_clock_tick x ≡ true) L
 
 -- a connection that gave its slot back, or never had one: some state that needs no slot stands for its list
 pub record Gone {C : Type 0} (K : Kind C) (site : Site) (c : ℕ) (L : List Item) : Type 0 where
@@ -49,17 +55,18 @@ pub record Gone {C : Type 0} (K : Kind C) (site : Site) (c : ℕ) (L : List Item
   pub stands : K.stands site conn L
   pub free : K.needs conn ≡ false
 
--- the event names the connection, or its unsettled child
+-- the event names the connection, or the child of its run
 abbrev pub IsFor : {C : Type 0} → Kind C → C → Event → Type 0
-IsFor K x event = (names (K.number_of x) (In event) ≡ true) ⊎ ((k : ℕ) × (names_child k (In event) ≡ true) × (is_child (K.child_of x) k ≡ true))
+IsFor K x event = (names (K.number_of x) (In event) ≡ true) ⊎ ((k : ℕ) × (names_child k (In event) ≡ true) × (is_child (K.kid_of x) k ≡ true))
 
 -- ---- a step
 
--- The event is of connection c, which stands for L, and may come next; n is the number of the next child, and `stamp` what
--- the clock showed at the last Tick, the event included.
+-- The event is of connection c, which stands for L and was accepted with the event at the latest, and may come next; n is
+-- the number of the next child, and `stamp` what the clock showed at the last Tick, the event included.
 pub record Fitting (limit c n : ℕ) (stamp : Option ℕ) (L : List Item) (event : Event) : Type 0 where
   pub mine : (is_common (In event) || is_of c (children L c) n (In event)) ≡ true
   pub fits : fits_own limit L event ≡ true
+  pub told : was_accepted (L ++ In event ∷ []) ≡ true
   pub fresh : (k : ℕ) → n ≤ k → list_any (names_child k) L ≡ false
   pub clock : stamp ≡ last_secs (L ++ In event ∷ [])
 
@@ -103,11 +110,13 @@ pub record Laws {C : Type 0} (K : Kind C) : Type 0 where
   -- what is promised holds of each step of its list
   pub good : (site : Site) (x : C) (L : List Item) → K.stands site x L → AtEachStep (K.is_good site (K.number_of x)) L
   pub unsettled : (site : Site) (x : C) (L : List Item) → K.stands site x L → filter (λ k. not (settled L k)) (children L (K.number_of x)) ≡ option_to_list (K.child_of x)
+  -- the child of its run was started for it
+  pub kid_started : (site : Site) (x : C) (L : List Item) (k : ℕ) → K.stands site x L → is_child (K.kid_of x) k ≡ true → has (children L (K.number_of x)) k ≡ true
   pub shut_is : (site : Site) (x : C) (L : List Item) → K.stands site x L → K.was_shut x ≡ shut L (K.number_of x)
   pub fits_is : (site : Site) (x : C) (L : List Item) (event : Event) → K.stands site x L → IsFor K x event → K.fits_conn x event ≡ fits_own site.limits.children L event
-  -- an event of a child that is settled changes nothing
+  -- an event of an earlier child, which is settled, changes nothing
   pub late : (site : Site) (x : C) (L : List Item) (limit n : ℕ) (stamp : Option ℕ) (k : ℕ) (event : Event) → K.stands site x L → Fitting limit (K.number_of x) n stamp L event
-      → names_child k (In event) ≡ true → is_child (K.child_of x) k ≡ false → K.stands site x (L ++ In event ∷ [])
+      → names_child k (In event) ≡ true → is_child (K.kid_of x) k ≡ false → K.stands site x (L ++ In event ∷ [])
   -- a connection without a slot goes on as it is
   pub idle : (site : Site) (c : ℕ) (L : List Item) (limit n : ℕ) (stamp : Option ℕ) (event : Event) → Gone K site c L → Fitting limit c n stamp L event → Gone K site c (L ++ In event ∷ [])
   -- one may be turned away, where another stands for some list

@@ -2,6 +2,7 @@
 ghost use Rattle.std.specs.Prelude.{◌≡◌, ℕ, List, None, false};
 ghost use Rattle.host_base.specs.SiteRules.{IsServed};
 ghost use Rattle.host_trace.specs.declared.items.Item.{Item};
+ghost use Rattle.reply_writer.specs.WholeRules.{IsStamp};
 ghost use Rattle.many_conns.specs.Kind.{AreTicks, Gives, Kind, Laws};
 
 use host_base::Site;
@@ -23,14 +24,19 @@ pub trait Connection: Drop + Sized {
         children: &mut u64,
         out: &mut O,
     ) -> bool
-        requires { IsServed (kind.site_of self.old) }
+        requires stamp { IsStamp now }
+        requires served { IsServed (kind.site_of self.old) }
         ensures gives { Gives kind self.old children.old ev now self.new children.new (O.trace out.old) (O.trace out.new) }
         ensures needs { result ≡ kind.needs self.new }
         ensures limit { O.limit out.new ≡ O.limit out.old };
 
-    /// Whether an event that names it or its unsettled child may come next.
+    /// Whether an event that names it or the child of its run may come next.
     fn fits(&self, ev: &Event) -> bool
         ensures { result ≡ kind.fits_conn self.now ev.now };
+
+    /// The child of its run, settled or not.
+    fn kid(&self) -> Option<u64>
+        ensures { result ≡ kind.kid_of self.now };
 
     /// Its child that is not settled.
     fn child(&self) -> Option<u64>
@@ -48,6 +54,7 @@ pub trait Connection: Drop + Sized {
 pub trait NewConnection<'s>: Connection {
     /// Connection `c`, of which nothing was heard. It takes no memory.
     fn new(alloc: Global, site: &'s Site, c: u64) -> Self
+        requires { IsServed site.now }
         ensures site { Self.kind.site_of result ≡ site.now }
         ensures number { Self.kind.number_of result ≡ c }
         ensures kid { Self.kind.kid_of result ≡ None }

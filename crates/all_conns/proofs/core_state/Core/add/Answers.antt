@@ -19,4 +19,5 @@ returns-clause-sound g c =
       room = c.push.ensures.cap ∙ c.requires.sound.room;
       few = omega (arith, long, c.requires.room);
       site_good = c.requires.sound.site_good;
+      clock_good = c.requires.sound.clock_good;
     }

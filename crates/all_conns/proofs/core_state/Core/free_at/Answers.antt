@@ -24,4 +24,5 @@ returns-then-not-held-clause-sound g c =
       room = c.remove.ensures.cap ∙ c.requires.sound.room;
       few = let few = c.requires.sound.few in omega (arith, long, len, few);
       site_good = c.requires.sound.site_good;
+      clock_good = c.requires.sound.clock_good;
     }

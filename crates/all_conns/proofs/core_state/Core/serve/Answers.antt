@@ -94,4 +94,5 @@ returns-clause-sound g c =
       room = c.step-held.ensures.cap ∙ c.requires.sound.room;
       few = omega (arith, long, c.requires.sound.few);
       site_good = c.requires.sound.site_good;
+      clock_good = c.requires.sound.clock_good;
     }

@@ -14,8 +14,8 @@ index_mut-requires g c =
     let K = g.C.Connection.kind in
     let t = c.args.self.now in held K t.places.items t.rows t.keys c.args.i c.index.result.now c.requires.place c.index.ensures
 
-pub step-requires : goal.step-requires
-step-requires g c =
+pub step-requires-clause-served : goal.step-requires-clause-served
+step-requires-clause-served g c =
     let K = g.C.Connection.kind in
     let t = c.args.self.now in
     let x = c.index_mut.result.now in

@@ -1,0 +1,6 @@
+//! The connections of this server, as the core of all connections holds them.
+#![tactic(auto)]
+
+mod host_conn;
+
+pub use host_conn::HostConn;
