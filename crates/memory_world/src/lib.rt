@@ -1,0 +1,23 @@
+//! The outside in memory: lists of what comes and of what fails, in place of sockets, pipes and files.
+#![tactic(auto)]
+
+mod events;
+mod find;
+mod fit;
+mod open;
+mod outside;
+mod sink;
+mod store;
+mod sums;
+mod telling;
+mod world;
+
+pub use events::Listed;
+pub use fit::fits;
+pub use outside::MemoryOutside;
+pub use sink::MemorySink;
+pub use store::{MemoryStore, StoredFile};
+pub use world::MemoryWorld;
+
+#[cfg(test)]
+mod tests;
