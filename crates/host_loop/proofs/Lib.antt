@@ -1,0 +1,4 @@
+pub mod OverLaws
+pub mod TurnLaws
+mod AnyLaws
+pub mod GivenLaws

@@ -1,0 +1,20 @@
+-- A core and an outside become a lane.
+use Rattle.std.proofs.Common.{rules, ◌≡◌, Some}
+use Rattle.std.proofs.lemmas.List.Elements.{All-push, All-pop}
+use Rattle.host_loop.specs.Loops.{HasHeardNothing, IsFresh}
+use Rattle.host_loop.proofs.lanes.fill.Goals as goal
+
+pub loop-core-preserved : goal.loop-core-preserved
+loop-core-preserved g c =
+    let site = c.args.site.now in
+    let core = All-pop (HasHeardNothing site) c.loop-core.cores.items c.pop.new.self.items (Some c.in-Some.core) c.in-Some.ensures.items c.loop-core.invariant.cores in
+    let out = All-pop (λ o. IsFresh (g.O.Outside.trace o) × (g.O.Outside.limit o ≡ site.limits.children)) c.loop-core.outs.items c.take_last-out.new.self.items (Some c.take_last-out.result) c.take_last-out.ensures.items c.loop-core.invariant.outs in
+    record {
+      same = search rules;
+      count = search rules;
+      room = search rules;
+      kept = search rules;
+      cores = core.0;
+      outs = out.0;
+      lanes = rw c.push_reserved.ensures.items (All-push (λ x. HasHeardNothing site x.core × (IsFresh (g.O.Outside.trace x.out) × (g.O.Outside.limit x.out ≡ site.limits.children))) c.loop-core.lanes.items _ c.loop-core.invariant.lanes (core.1, out.1));
+    }
