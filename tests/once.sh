@@ -153,7 +153,7 @@ refused 'no words'
 refused 'once alone' once
 refused 'a path without a slash' once x=/bin/cat
 refused 'a word too many' once /hello=/bin/cat more
-refused 'once with a file' once site
+refused "once with no name" once ""
 refused 'a command that is none' twice /hello=/bin/cat
 refused 'a word that is not UTF-8' once $'/hello=/bin/\xff'
 

@@ -1,13 +1,8 @@
 -- A world that was given one outside.
-use Rattle.std.proofs.Common.{◌≡◌, ◌^◌, List, [], ◌∷◌, ◌++◌, Option, Some, refl, map, length, arith}
+use Rattle.std.proofs.Common.{◌≡◌, List, [], ◌∷◌, ◌++◌, Option, Some, refl, map, length, arith}
 use Rattle.std.proofs.Math.ListN.{set}
-use Rattle.host_base.specs.declared.site.Site.{Site}
 use Rattle.host_trace.specs.declared.items.Item.{Item}
 use Rattle.host_trace.specs.Told.{JoinedTo}
-use Rattle.host_core.specs.Good.{Good}
-use Rattle.host_run.specs.Served.{Served}
-use Rattle.host_run.specs.Given.{GaveGood, GaveOne}
-use Rattle.host_run.specs.declared.serve.LoopEnd.{LoopEnd}
 
 pub record JoinedOne (before : Option (List (List Item))) (trace : Option (List Item)) (now : List (List Item)) : Type 0 where
   pub was : List (List Item)
@@ -28,11 +23,3 @@ joined_one trace (x ∷ []) o before now e j =
     let one = one_of (trace o) j.added j.each in
     record { was = j.was; of = one.0; told = j.told; is = one.1; grew = rw one.2 at j.grew }
 joined_one trace (x ∷ (y ∷ os)) o before now e j = absurd (omega arith)
-
-pub gave_good : (site : Site) (before : Option (List (List Item))) (trace : Option (List Item)) (now : List (List Item)) →
-    ((T : List Item) → trace ≡ Some T → Good site T) → JoinedOne before trace now → GaveGood site before now
-gave_good site before trace now good j = record { was = j.was; added = j.of ∷ []; told = j.told; grew = j.grew; good = (good j.of j.is, tt) }
-
-pub gave_one : (end : LoopEnd) (before : Option (List (List Item))) (trace : Option (List Item)) (now : List (List Item)) →
-    ((T : List Item) → trace ≡ Some T → Served (2 ^ 62) end T) → JoinedOne before trace now → GaveOne end before now
-gave_one end before trace now served j = record { was = j.was; trace = j.of; told = j.told; grew = j.grew; served = served j.of j.is }

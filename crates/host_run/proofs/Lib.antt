@@ -1,7 +1,8 @@
-pub mod SumLaws
-pub mod NextLaws
 pub mod TurnLaws
 pub mod StatusLaws
 pub mod JoinLaws
 pub mod WordLaws
 pub mod ExplainLaws
+pub mod EntryLaws
+pub mod GivenLaws
+pub mod NumberLaws

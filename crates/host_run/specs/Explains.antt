@@ -6,7 +6,7 @@ use Rattle.host_trace.specs.declared.items.Item.{Item}
 use Rattle.explain.specs.Explained.{AsksAlone, IsFirstExplained, IsNeverExplained, explanation}
 use Rattle.host_run.specs.Statuses.{Says}
 use Rattle.host_run.specs.Words.{Form, Does, Help, Version}
-use Rattle.host_run.specs.declared.words.Task.TheVariants.{Once, Check, Upgrade, Explain}
+use Rattle.host_run.specs.declared.words.Task.TheVariants.{Once, Serve, Check, Upgrade, Explain}
 use Rattle.host_run.specs.declared.top.Status.{Status}
 use Rattle.host_run.specs.declared.top.Status.TheVariants.{Done, Usage, SiteRefused, SiteUnread, WorldRefused, Spent, ReportFault, NoMemory}
 
@@ -70,6 +70,7 @@ ExplainsBy IsSite WorldRefused given given' put put' = (given' ≡ given) × (pu
 abbrev pub ExplainsAt : Option (List Stored) → Option Form → Status → Option (List (List Item)) → Option (List (List Item)) → Option (List ℕ) → Option (List ℕ) → Type 0
 ExplainsAt stored (Some (Does Explain place)) status given given' put put' = ExplainsBy (λ site. Says stored place (Ok site)) status given given' put put'
 ExplainsAt stored (Some (Does Once place)) status given given' put put' = Unit {0}
+ExplainsAt stored (Some (Does (Serve turns) place)) status given given' put put' = Unit {0}
 ExplainsAt stored (Some (Does Check place)) status given given' put put' = Unit {0}
 ExplainsAt stored (Some (Does Upgrade place)) status given given' put put' = Unit {0}
 ExplainsAt stored (Some Help) status given given' put put' = Unit {0}

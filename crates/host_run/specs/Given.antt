@@ -1,70 +1,49 @@
 -- What a run gives back to its world.
-use Rattle.std.specs.Prelude.{List, [], ◌∷◌, ◌++◌, ◌≡◌, ◌^◌, ◌⊎◌, Option, Some, None}
-use Rattle.std.specs.List.{AllByRecursion}
+use Rattle.std.specs.Prelude.{ℕ, List, ◌≡◌, ◌^◌, ◌⊎◌, Option, Some, None, Ok}
+use Rattle.host_base.specs.Outsides.{Stored}
 use Rattle.host_base.specs.declared.site.Site.{Site}
 use Rattle.host_trace.specs.declared.items.Item.{Item}
-use Rattle.host_core.specs.Good.{Good}
-use Rattle.site_file.specs.OneScript.{site_of_one}
-use Rattle.host_run.specs.Served.{Served}
-use Rattle.host_run.specs.Words.{ByScript, InFile, Form, Does, Help, Version}
-use Rattle.host_run.specs.declared.serve.LoopEnd.{LoopEnd}
-use Rattle.host_run.specs.declared.serve.LoopEnd.TheVariants.{Done as LoopDone, Spent as LoopSpent, NoMemory as LoopNoMemory}
-use Rattle.host_run.specs.declared.words.Task.TheVariants.{Once, Check, Upgrade, Explain}
+use Rattle.host_loop.specs.Given.{GivesLoops}
+use Rattle.host_loop.specs.declared.serve.LoopEnd.{LoopEnd}
+use Rattle.host_loop.specs.declared.serve.LoopEnd.TheVariants.{Done as LoopDone, Spent as LoopSpent, NoMemory as LoopNoMemory}
+use Rattle.host_loop.specs.declared.world.WorldEnd.TheVariants.{Ended}
+use Rattle.host_run.specs.Promise.{Promise}
+use Rattle.host_run.specs.Statuses.{Says}
+use Rattle.host_run.specs.Words.{Form, Does, Help, Version}
+use Rattle.host_run.specs.declared.words.Task.TheVariants.{Once, Serve, Check, Upgrade, Explain}
 use Rattle.host_run.specs.declared.top.Status.{Status}
 use Rattle.host_run.specs.declared.top.Status.TheVariants.{Done, Usage, SiteRefused, SiteUnread, WorldRefused, Spent, ReportFault, NoMemory}
 
--- the traces given back in this call are good
-pub record GaveGood (site : Site) (before : Option (List (List Item))) (now : List (List Item)) : Type 0 where
-  pub was : List (List Item)
-  pub added : List (List Item)
-  pub told : before ≡ Some was
-  pub grew : now ≡ was ++ added
-  pub good : AllByRecursion (Good site) added
+-- exactly one trace was given back in this call: what is promised for the site is so of it, and its loop, of so many turns,
+-- ended so
+abbrev pub GivesLoop : Site → ℕ → LoopEnd → Option (List (List Item)) → Option (List (List Item)) → Type 0
+GivesLoop site turns end before after = GivesLoops (Promise site) turns 1 (Ended end) before after
 
-abbrev pub GivesGood : Site → Option (List (List Item)) → Option (List (List Item)) → Type 0
-GivesGood site before after = (now : List (List Item)) → after ≡ Some now → GaveGood site before now
+-- .. for a site of which this is so
+pub record IsServed (IsSite : Site → Type 0) (turns : ℕ) (end : LoopEnd) (before after : Option (List (List Item))) : Type 0 where
+  pub site : Site
+  pub said : IsSite site
+  pub gives : GivesLoop site turns end before after
 
--- .. where they are of the site of one script. What `explain` gives back is said beside its report, and the other forms
--- give nothing back.
-abbrev pub GivesGoodBy : Option Form → Option (List (List Item)) → Option (List (List Item)) → Type 0
-GivesGoodBy (Some (Does Once (ByScript path program))) before after = GivesGood (site_of_one path program) before after
-GivesGoodBy (Some (Does Once (InFile name))) before after = after ≡ before
-GivesGoodBy (Some (Does Check place)) before after = after ≡ before
-GivesGoodBy (Some (Does Upgrade place)) before after = after ≡ before
-GivesGoodBy (Some (Does Explain place)) before after = Unit {0}
-GivesGoodBy (Some Help) before after = after ≡ before
-GivesGoodBy (Some Version) before after = after ≡ before
-GivesGoodBy None before after = after ≡ before
+-- By the status: exactly one trace where the loop ended or was spent, none where there was no loop, none or an empty one
+-- where memory was wanting.
+abbrev pub GivesBy : (Site → Type 0) → ℕ → Status → Option (List (List Item)) → Option (List (List Item)) → Type 0
+GivesBy IsSite turns Done before after = IsServed IsSite turns LoopDone before after
+GivesBy IsSite turns Spent before after = IsServed IsSite turns LoopSpent before after
+GivesBy IsSite turns NoMemory before after = (after ≡ before) ⊎ IsServed IsSite turns LoopNoMemory before after
+GivesBy IsSite turns Usage before after = after ≡ before
+GivesBy IsSite turns WorldRefused before after = after ≡ before
+GivesBy IsSite turns (SiteRefused fault) before after = after ≡ before
+GivesBy IsSite turns SiteUnread before after = after ≡ before
+GivesBy IsSite turns ReportFault before after = ⊥
 
--- exactly one trace was given back in this call, and this is so of it by how its loop ended
-pub record GaveOne (end : LoopEnd) (before : Option (List (List Item))) (now : List (List Item)) : Type 0 where
-  pub was : List (List Item)
-  pub trace : List Item
-  pub told : before ≡ Some was
-  pub grew : now ≡ was ++ trace ∷ []
-  pub served : Served (2 ^ 62) end trace
-
-abbrev pub GivesOneBy : LoopEnd → Option (List (List Item)) → Option (List (List Item)) → Type 0
-GivesOneBy end before after = (now : List (List Item)) → after ≡ Some now → GaveOne end before now
-
--- by the status: exactly one trace where the loop ended or was spent, none where there was no loop, none or
--- an empty one where memory was wanting
-abbrev pub GivesOne : Status → Option (List (List Item)) → Option (List (List Item)) → Type 0
-GivesOne Done before after = GivesOneBy LoopDone before after
-GivesOne Spent before after = GivesOneBy LoopSpent before after
-GivesOne NoMemory before after = (after ≡ before) ⊎ GivesOneBy LoopNoMemory before after
-GivesOne Usage before after = after ≡ before
-GivesOne WorldRefused before after = after ≡ before
-GivesOne (SiteRefused fault) before after = after ≡ before
-GivesOne SiteUnread before after = after ≡ before
-GivesOne ReportFault before after = ⊥
-
--- what the form gives back; of `explain` it is said beside its report
-abbrev pub GivesBy : Option Form → Status → Option (List (List Item)) → Option (List (List Item)) → Type 0
-GivesBy (Some (Does Once place)) status before after = GivesOne status before after
-GivesBy (Some (Does Check place)) status before after = after ≡ before
-GivesBy (Some (Does Upgrade place)) status before after = after ≡ before
-GivesBy (Some (Does Explain place)) status before after = Unit {0}
-GivesBy (Some Help) status before after = after ≡ before
-GivesBy (Some Version) status before after = after ≡ before
-GivesBy None status before after = after ≡ before
+-- What the form gives back, for the site that is said at its place. Of `explain` it is said beside its report.
+abbrev pub GivesAt : Option (List Stored) → Option Form → Status → Option (List (List Item)) → Option (List (List Item)) → Type 0
+GivesAt stored (Some (Does Once place)) status before after = GivesBy (λ site. Says stored place (Ok site)) (2 ^ 62) status before after
+GivesAt stored (Some (Does (Serve turns) place)) status before after = GivesBy (λ site. Says stored place (Ok site)) turns status before after
+GivesAt stored (Some (Does Check place)) status before after = after ≡ before
+GivesAt stored (Some (Does Upgrade place)) status before after = after ≡ before
+GivesAt stored (Some (Does Explain place)) status before after = Unit {0}
+GivesAt stored (Some Help) status before after = after ≡ before
+GivesAt stored (Some Version) status before after = after ≡ before
+GivesAt stored None status before after = after ≡ before

@@ -1,13 +1,7 @@
-pub mod Sums
-pub mod NextEvent
-pub mod ListedWords
-pub mod MemoryWords
-pub mod StoreWords
-pub mod WorldWords
-pub mod Served
+pub mod Promise
 pub mod Words
 pub mod Statuses
 pub mod Given
 pub mod Explains
 pub mod ExplainSteps
-pub mod SinkWords
+pub mod Entered

@@ -12,7 +12,7 @@ use Rattle.host_run.specs.Words.{SitePlace, ByScript, InFile, is_file, Form, Doe
 use Rattle.host_run.specs.declared.report.TheConstants.{HELP, VERSION}
 use Rattle.host_run.specs.declared.top.Status.{Status}
 use Rattle.host_run.specs.declared.top.Status.TheVariants.{Done, Usage, SiteRefused, SiteUnread, WorldRefused, Spent, ReportFault, NoMemory}
-use Rattle.host_run.specs.declared.words.Task.TheVariants.{Once, Check, Upgrade, Explain}
+use Rattle.host_run.specs.declared.words.Task.TheVariants.{Once, Serve, Check, Upgrade, Explain}
 
 -- ---- the site
 
@@ -100,6 +100,7 @@ IsUpgradeText stored place text = (site : Site) × (Says stored place (Ok site) 
 abbrev pub ReportsBy : Option (List Stored) → Option Form → Status → Option (List ℕ) → Option (List ℕ) → Type 0
 ReportsBy stored None status before after = after ≡ before
 ReportsBy stored (Some (Does Once place)) status before after = after ≡ before
+ReportsBy stored (Some (Does (Serve turns) place)) status before after = after ≡ before
 ReportsBy stored (Some (Does Check place)) status before after = PutsBy (IsCheckText stored place) status before after
 ReportsBy stored (Some (Does Upgrade place)) status before after = PutsBy (IsUpgradeText stored place) status before after
 ReportsBy stored (Some (Does Explain place)) status before after = Unit {0}
@@ -128,6 +129,7 @@ reads_store None = false
 
 abbrev pub enters_world : Option Form → Bool
 enters_world (Some (Does Once place)) = true
+enters_world (Some (Does (Serve turns) place)) = true
 enters_world (Some (Does Explain place)) = true
 enters_world (Some (Does Check place)) = false
 enters_world (Some (Does Upgrade place)) = false
@@ -137,6 +139,7 @@ enters_world None = false
 
 abbrev pub writes_report : Option Form → Bool
 writes_report (Some (Does Once place)) = false
+writes_report (Some (Does (Serve turns) place)) = false
 writes_report (Some (Does Explain place)) = true
 writes_report (Some (Does Check place)) = true
 writes_report (Some (Does Upgrade place)) = true

@@ -1,6 +1,8 @@
 -- The words of the command line that have a form.
-use Rattle.std.specs.Prelude.{ℕ, Bool, true, false, not, ◌==◌, ◌&&◌, nat_lt, length, List, [], ◌∷◌, Option, Some, None, option_and_then, codes, bytes_eq, String, string_bytes, if◌then◌else◌}
-use Rattle.std.specs.List.{position_or_len, before_first, after_first}
+use Rattle.std.specs.Prelude.{ℕ, ◌≤◌, ◌^◌, ◌==◌, ◌&&◌, Bool, true, false, nat_lt, nat_le, length, List, [], ◌∷◌, Option, Some, None, option_and_then, option_map, codes, bytes_eq, String, string_bytes, if◌then◌else◌}
+use Rattle.std.specs.Char.{is_ascii_digit}
+use Rattle.std.specs.List.{list_all, position_or_len, before_first, after_first}
+use Rattle.std.specs.Str.Parse.{digits_value}
 use Rattle.std.specs.Global.{Global}
 use Rattle.site_file.specs.Ranges.{is_script_path, is_program}
 use Rattle.host_run.specs.declared.words.Command.{Command}
@@ -8,7 +10,7 @@ use Rattle.host_run.specs.declared.words.Command.TheVariants as Rust
 use Rattle.host_run.specs.declared.words.Place.{Place}
 use Rattle.host_run.specs.declared.words.Place.TheVariants as At
 use Rattle.host_run.specs.declared.words.Task.{Task}
-use Rattle.host_run.specs.declared.words.Task.TheVariants.{Once, Check, Upgrade, Explain}
+use Rattle.host_run.specs.declared.words.Task.TheVariants.{Once, Serve, Check, Upgrade, Explain}
 
 -- where a site is said
 pub data SitePlace : Type 0 where
@@ -66,29 +68,49 @@ place_of word = place_of_parts word (parts_of word)
 abbrev pub task_of : List ℕ → Option Task
 task_of word =
     if bytes_eq word (codes "once") then Some Once
+    else (if bytes_eq word (codes "serve") then Some (Serve (2 ^ 62))
     else (if bytes_eq word (codes "check") then Some Check
     else (if bytes_eq word (codes "upgrade") then Some Upgrade
-    else (if bytes_eq word (codes "explain") then Some Explain else None)))
+    else (if bytes_eq word (codes "explain") then Some Explain else None))))
 
--- the core of today serves the site of one script alone
-abbrev pub is_served_by : Task → SitePlace → Bool
-is_served_by Once place = not (is_file place)
-is_served_by Check place = true
-is_served_by Upgrade place = true
-is_served_by Explain place = true
+-- a number: 1 to 19 decimal digits
+abbrev pub is_number : List ℕ → Bool
+is_number word = nat_lt 0 (length word) && nat_le (length word) 19 && list_all is_ascii_digit word
 
-abbrev pub form_doing : Task → SitePlace → Option Form
-form_doing task place = if is_served_by task place then Some (Does task place) else None
+abbrev pub number_of : List ℕ → Option ℕ
+number_of word = if is_number word then Some (digits_value 10 word) else None
+
+-- how many turns a loop has: 1 to 2^62
+abbrev pub turns_at : ℕ → Option ℕ
+turns_at number = if nat_le 1 number && nat_le number (2 ^ 62) then Some number else None
+
+abbrev pub turns_of : List ℕ → Option ℕ
+turns_of word = option_and_then turns_at (number_of word)
+
+-- the turns that a task says are so many at most
+abbrev pub HasTurns : Form → Type 0
+HasTurns (Does (Serve turns) place) = turns ≤ 2 ^ 62
+HasTurns _ = Unit {0}
 
 abbrev pub form_alone : List ℕ → Option Form
 form_alone word =
     if bytes_eq word (codes "--help") then Some Help else (if bytes_eq word (codes "--version") then Some Version else None)
 
 abbrev pub form_of_two : List ℕ → List ℕ → Option Form
-form_of_two first second = option_and_then (λ task. option_and_then (form_doing task) (place_of second)) (task_of first)
+form_of_two first second = option_and_then (λ task. option_map (Does task) (place_of second)) (task_of first)
+
+abbrev pub is_with_turns : List ℕ → List ℕ → Bool
+is_with_turns first third = bytes_eq first (codes "serve") && bytes_eq third (codes "--turns")
+
+abbrev pub form_with_turns : List ℕ → List ℕ → Option Form
+form_with_turns second fourth = option_and_then (λ place. option_map (λ turns. Does (Serve turns) place) (turns_of fourth)) (place_of second)
+
+abbrev pub form_of_four : List ℕ → List ℕ → List ℕ → List ℕ → Option Form
+form_of_four first second third fourth = if is_with_turns first third then form_with_turns second fourth else None
 
 -- The form that the words after the program's name have.
 abbrev pub form_of : List (String Global) → Option Form
 form_of (word ∷ []) = form_alone (string_bytes word)
 form_of (first ∷ second ∷ []) = form_of_two (string_bytes first) (string_bytes second)
+form_of (first ∷ second ∷ third ∷ fourth ∷ []) = form_of_four (string_bytes first) (string_bytes second) (string_bytes third) (string_bytes fourth)
 form_of _ = None

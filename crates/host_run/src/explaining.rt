@@ -2,6 +2,7 @@
 ghost use Rattle.std.specs.Prelude.{◌≡◌, Err, IfOk, OnErr, true};
 ghost use Rattle.host_base.specs.Outsides.{Rose};
 ghost use Rattle.host_base.specs.SiteRules.{IsServed};
+ghost use Rattle.host_trace.specs.Entries.{Enters, entry_of};
 ghost use Rattle.host_run.specs.Explains.{ExplainsBy};
 ghost use Rattle.host_run.specs.ExplainSteps.{GivesEnd, PutsEnd, is_explain_status};
 
@@ -20,6 +21,7 @@ fn explain_in<W: World>(alloc: Global, site: &Site, world: &mut W) -> Result<Exp
     requires { IsServed site.now }
     ensures gives { IfOk result (λ end. GivesEnd site.now end (W.given world.old) (W.given world.new)) }
     ensures kept { OnErr result (W.given world.new ≡ W.given world.old) }
+    ensures entered { Enters (W.entries world.old) (entry_of Mode.Once site.now 1) (W.entries world.new) }
     ensures out { W.out world.new ≡ W.out world.old }
     ensures failed { result ≡ Err EnterFault.Failed → Rose (W.faults world.old) (W.faults world.new) }
 {
@@ -57,6 +59,7 @@ pub fn run_explain<S: Sink, W: World>(
     requires { IsServed site.now }
     ensures status { is_explain_status result ≡ true }
     ensures explains { ExplainsBy (λ s. s ≡ site.now) result (W.given world.old) (W.given world.new) (S.written report.old) (S.written report.new) }
+    ensures entered { Enters (W.entries world.old) (entry_of Mode.Once site.now 1) (W.entries world.new) }
     ensures out { W.out world.new ≡ W.out world.old }
     ensures failed { result ≡ Status.WorldRefused → Rose (W.faults world.old) (W.faults world.new) }
     ensures fault { result ≡ Status.ReportFault → Rose (S.faults report.old) (S.faults report.new) }

@@ -1,19 +1,22 @@
 // The top call.
-ghost use Rattle.std.specs.Prelude.{◌≡◌, ◌↔◌, None, Some, true, false};
-ghost use Rattle.host_base.specs.LimitRanges.{AreInRange};
+ghost use Rattle.std.specs.Prelude.{◌≡◌, ◌≤◌, ◌^◌, ◌↔◌, None, Some, true, false};
 ghost use Rattle.host_base.specs.Outsides.{Rose};
+ghost use Rattle.host_base.specs.SiteRules.{IsServed};
+ghost use Rattle.host_trace.specs.Entries.{Enters, entry_of};
+ghost use Rattle.host_run.specs.Entered.{EntersAt};
 ghost use Rattle.host_run.specs.Explains.{ExplainsAt};
-ghost use Rattle.host_run.specs.Given.{GivesGood, GivesGoodBy, GivesOne, GivesBy};
+ghost use Rattle.host_run.specs.Given.{GivesAt, GivesBy};
 ghost use Rattle.host_run.specs.Statuses.{InOrder, ReadsBy, ReportsBy, SitesBy, enters_world, is_run, reads_store, writes_report};
-ghost use Rattle.host_run.specs.Words.{Does, form_of, is_served_by, place_at};
+ghost use Rattle.host_run.specs.Words.{Does, HasTurns, form_of, place_at};
 
 use super::explaining::run_explain;
 use super::report::{HELP, VERSION, check, put, upgrade};
-use super::serve::{LoopEnd, serve_one};
+use super::serve::serve_site;
 use super::sites::site_at;
-use super::words::{Command, Place, Task, form_of};
+use super::words::{Command, Place, TURNS, Task, form_of};
 use host_base::{Sink, Site, SiteStore};
-use host_trace::{EnterFault, Mode, World};
+use host_loop::{LoopEnd, WorldEnd};
+use host_trace::{Mode, World};
 use site_file::SiteFault;
 use std::alloc::Global;
 use std::thread::Threads;
@@ -38,29 +41,22 @@ pub enum Status {
     NoMemory,
 }
 
-// The greatest number of turns.
-const TURNS: u64 = 1 << 62;
-
-// Serves one connection.
-fn run_once<W: World>(alloc: Global, site: &Site, world: &mut W) -> Status
-    requires limits { AreInRange site.now.limits }
+// Serves the connections of one loop.
+fn run_loop<W: World>(alloc: Global, mode: Mode, site: &Site, turns: u64, world: &mut W) -> Status
+    requires turns { turns ≤ 2 ^ 62 }
+    requires served { IsServed site.now }
     ensures status { is_run result ≡ true }
-    ensures good { GivesGood site.now (W.given world.old) (W.given world.new) }
-    ensures one { GivesOne result (W.given world.old) (W.given world.new) }
+    ensures gives { GivesBy (λ s. s ≡ site.now) turns result (W.given world.old) (W.given world.new) }
+    ensures entered { Enters (W.entries world.old) (entry_of mode site.now 1) (W.entries world.new) }
     ensures out { W.out world.new ≡ W.out world.old }
     ensures failed { result ≡ Status.WorldRefused → Rose (W.faults world.old) (W.faults world.new) }
 {
-    let mut outs = match world.enter(Mode::Once, site, 1) {
-        Ok(outs) => outs,
-        Err(EnterFault::Failed) => return Status::WorldRefused,
-        Err(EnterFault::NoMemory) => return Status::NoMemory,
-    };
-    let end = serve_one(alloc, site, &mut outs[0], TURNS);
-    world.leave(outs);
-    match end {
-        LoopEnd::Done => Status::Done,
-        LoopEnd::Spent => Status::Spent,
-        LoopEnd::NoMemory => Status::NoMemory,
+    match serve_site(alloc, mode, site, turns, world) {
+        WorldEnd::Refused => Status::WorldRefused,
+        WorldEnd::Unentered => Status::NoMemory,
+        WorldEnd::Ended(LoopEnd::Done) => Status::Done,
+        WorldEnd::Ended(LoopEnd::Spent) => Status::Spent,
+        WorldEnd::Ended(LoopEnd::NoMemory) => Status::NoMemory,
     }
 }
 
@@ -73,10 +69,10 @@ fn run_at<F: SiteStore, S: Sink, W: World>(
     report: &mut S,
     world: &mut W,
 ) -> Status
-    requires { is_served_by task (place_at place.now) ≡ true }
+    requires turns { HasTurns (Does task (place_at place.now)) }
     ensures site { ReadsBy (F.stored store.old) (place_at place.now) result }
-    ensures good { GivesGoodBy (Some (Does task (place_at place.now))) (W.given world.old) (W.given world.new) }
-    ensures one { GivesBy (Some (Does task (place_at place.now))) result (W.given world.old) (W.given world.new) }
+    ensures gives { GivesAt (F.stored store.old) (Some (Does task (place_at place.now))) result (W.given world.old) (W.given world.new) }
+    ensures entered { EntersAt (F.stored store.old) (Some (Does task (place_at place.now))) result (W.entries world.old) (W.entries world.new) }
     ensures out { W.out world.new ≡ W.out world.old }
     ensures report { ReportsBy (F.stored store.old) (Some (Does task (place_at place.now))) result (S.written report.old) (S.written report.new) }
     ensures explains { ExplainsAt (F.stored store.old) (Some (Does task (place_at place.now))) result (W.given world.old) (W.given world.new) (S.written report.old) (S.written report.new) }
@@ -93,7 +89,8 @@ fn run_at<F: SiteStore, S: Sink, W: World>(
         Err(status) => return status,
     };
     match task {
-        Task::Once => run_once(alloc, &site, world),
+        Task::Once => run_loop(alloc, Mode::Once, &site, TURNS, world),
+        Task::Serve(turns) => run_loop(alloc, Mode::Serve, &site, turns, world),
         Task::Check => check(alloc, &site, report),
         Task::Upgrade => upgrade(alloc, &site, report),
         Task::Explain => run_explain(alloc, &site, report, world),
@@ -103,7 +100,8 @@ fn run_at<F: SiteStore, S: Sink, W: World>(
 /// Runs the host by the words that follow the program's name. SITE is PATH=PROGRAM, which needs no file, or
 /// the name of a site file, which is read from the store.
 ///
-/// - `once PATH=PROGRAM` serves one connection of the world. It writes no report.
+/// - `once SITE` serves one connection of the world, and `serve SITE`, perhaps with `--turns N`, its sockets in one loop,
+///   until N events were heard. They write no report.
 /// - `check SITE` reports how many scripts the site has, and `upgrade SITE` the site as a version 2 file.
 /// - `explain SITE` asks the client of one connection for its first request and reports what would be started for it, or
 ///   how it would be refused. Nothing is started, and nothing is written to the client.
@@ -120,8 +118,8 @@ pub fn run<R: Threads + Sync, F: SiteStore, S: Sink, W: World>(
 ) -> Status
     ensures usage { (result ≡ Status.Usage) ↔ (form_of words.now ≡ None) }
     ensures site { SitesBy (F.stored store.old) (form_of words.now) result }
-    ensures good { GivesGoodBy (form_of words.now) (W.given world.old) (W.given world.new) }
-    ensures one { GivesBy (form_of words.now) result (W.given world.old) (W.given world.new) }
+    ensures gives { GivesAt (F.stored store.old) (form_of words.now) result (W.given world.old) (W.given world.new) }
+    ensures entered { EntersAt (F.stored store.old) (form_of words.now) result (W.entries world.old) (W.entries world.new) }
     ensures out { W.out world.new ≡ W.out world.old }
     ensures report { ReportsBy (F.stored store.old) (form_of words.now) result (S.written report.old) (S.written report.new) }
     ensures explains { ExplainsAt (F.stored store.old) (form_of words.now) result (W.given world.old) (W.given world.new) (S.written report.old) (S.written report.new) }

@@ -1,6 +1,8 @@
 // The words of the command line.
-ghost use Rattle.std.specs.Prelude.{◌≡◌, MatchOption, None, Some, option_map};
-ghost use Rattle.host_run.specs.Words.{file_of, form_alone, form_at, form_doing, form_of, form_of_two, is_served_by, parts_of, place_at, place_of, place_of_parts, script_of, task_of};
+ghost use Rattle.std.specs.Prelude.{◌≡◌, ◌≤◌, ◌^◌, IfSome, MatchOption, None, Some, option_map};
+ghost use Rattle.std.specs.Char.{is_ascii_digit};
+ghost use Rattle.std.specs.List.{list_all};
+ghost use Rattle.host_run.specs.Words.{HasTurns, file_of, form_alone, form_at, form_of, form_of_four, form_of_two, form_with_turns, is_number, is_with_turns, number_of, parts_of, place_at, place_of, place_of_parts, script_of, task_of, turns_at, turns_of};
 
 use site_file::{is_program, is_script_path};
 
@@ -8,10 +10,15 @@ use site_file::{is_program, is_script_path};
 #[derive(Clone, Copy, Debug, PartialEq, Eq)]
 pub enum Task {
     Once,
+    /// Over sockets, with so many turns.
+    Serve(u64),
     Check,
     Upgrade,
     Explain,
 }
+
+// The greatest number of turns.
+pub const TURNS: u64 = 1 << 62;
 
 /// Where a site is said.
 #[derive(Clone, Copy, Debug)]
@@ -71,6 +78,8 @@ fn task_of(word: &str) -> Option<Task>
 {
     if word == "once" {
         Some(Task::Once)
+    } else if word == "serve" {
+        Some(Task::Serve(TURNS))
     } else if word == "check" {
         Some(Task::Check)
     } else if word == "upgrade" {
@@ -82,31 +91,67 @@ fn task_of(word: &str) -> Option<Task>
     }
 }
 
-fn is_served_by(task: Task, place: &Place) -> bool
-    ensures { result ≡ is_served_by task (place_at place.now) }
+fn are_digits(bytes: &[u8]) -> bool
+    ensures { result ≡ list_all is_ascii_digit bytes.now }
 {
-    match (task, place) {
-        (Task::Once, Place::File(_)) => false,
-        _ => true,
+    bytes.iter().all(|byte| byte.is_ascii_digit())
+}
+
+fn is_number(word: &str) -> bool
+    ensures { result ≡ is_number word.now }
+{
+    word.len() > 0 && word.len() <= 19 && are_digits(word.as_bytes())
+}
+
+fn number_of(word: &str) -> Option<u64>
+    ensures { result ≡ number_of word.now }
+{
+    if is_number(word) {
+        word.parse::<u64>().ok()
+    } else {
+        None
     }
 }
 
-fn form_doing(task: Task, place: Place<'_>) -> Option<Command<'_>>
-    ensures { option_map form_at result ≡ form_doing task (place_at place.entry) }
+fn turns_of(word: &str) -> Option<u64>
+    ensures exact { result ≡ turns_of word.now }
+    ensures few { IfSome result (λ turns. turns ≤ 2 ^ 62) }
 {
-    if is_served_by(task, &place) {
-        Some(Command::Does(task, place))
+    let number = number_of(word)?;
+    if number >= 1 && number <= TURNS {
+        Some(number)
     } else {
         None
     }
 }
 
 fn form_of_two<'w>(first: &str, second: &'w str) -> Option<Command<'w>>
-    ensures { option_map form_at result ≡ form_of_two first.now second.entry.now }
+    ensures exact { option_map form_at result ≡ form_of_two first.now second.entry.now }
+    ensures turns { IfSome result (λ command. HasTurns (form_at command)) }
 {
     let task = task_of(first)?;
     let place = place_of(second)?;
-    form_doing(task, place)
+    Some(Command::Does(task, place))
+}
+
+fn form_with_turns<'w>(second: &'w str, fourth: &str) -> Option<Command<'w>>
+    ensures exact { option_map form_at result ≡ form_with_turns second.entry.now fourth.now }
+    ensures turns { IfSome result (λ command. HasTurns (form_at command)) }
+{
+    let place = place_of(second)?;
+    let turns = turns_of(fourth)?;
+    Some(Command::Does(Task::Serve(turns), place))
+}
+
+fn form_of_four<'w>(first: &str, second: &'w str, third: &str, fourth: &str) -> Option<Command<'w>>
+    ensures exact { option_map form_at result ≡ form_of_four first.now second.entry.now third.now fourth.now }
+    ensures turns { IfSome result (λ command. HasTurns (form_at command)) }
+{
+    if first == "serve" && third == "--turns" {
+        form_with_turns(second, fourth)
+    } else {
+        None
+    }
 }
 
 fn form_alone(word: &str) -> Option<Command<'static>>
@@ -123,11 +168,18 @@ fn form_alone(word: &str) -> Option<Command<'static>>
 
 /// What the words after the program's name ask for, where they have a form.
 pub fn form_of(words: &[String]) -> Option<Command<'_>>
-    ensures { option_map form_at result ≡ form_of words.now }
+    ensures exact { option_map form_at result ≡ form_of words.now }
+    ensures turns { IfSome result (λ command. HasTurns (form_at command)) }
 {
     match words {
         [word] => form_alone(word.as_str()),
         [first, second] => form_of_two(first.as_str(), second.as_str()),
+        [first, second, third, fourth] => form_of_four(
+            first.as_str(),
+            second.as_str(),
+            third.as_str(),
+            fourth.as_str(),
+        ),
         _ => None,
     }
 }

@@ -1,8 +1,8 @@
 // The commands that need no loop: their words, their statuses and what they report.
 use super::drive::words_of;
-use crate::memory::{MemorySink, MemoryStore, MemoryWorld, StoredFile};
 use crate::{Status, run};
 use host_base::{Bytes, NoMemory, Text};
+use memory_world::{MemorySink, MemoryStore, MemoryWorld, StoredFile};
 use site_file::{SiteFault, read_site};
 use std::alloc::Global;
 use std::process::Abort;
@@ -181,7 +181,8 @@ fn the_help_names_what_there_is(rt: HostRuntime) -> Result<(), Fail> {
     assert!(&rt; matches!(came.status, Status::Done));
     let text = std::str::from_utf8(came.report.written())?;
     for form in [
-        "once",
+        "once SITE",
+        "serve SITE",
         "check SITE",
         "upgrade SITE",
         "explain SITE",

@@ -1,8 +1,8 @@
 // Runs of the top call over memory: its words, what is heard, and what came of a run.
-use crate::memory::{MemoryOutside, MemorySink, MemoryStore, MemoryWorld};
 use crate::{Status, run};
 use host_base::{Bytes, NoMemory, Peer, Text};
 use host_trace::{Act, Event, Events, Item, Why};
+use memory_world::{MemoryOutside, MemorySink, MemoryStore, MemoryWorld};
 use std::alloc::Global;
 use std::thread::Threads;
 

@@ -1,9 +1,9 @@
 // What `explain` reports of requests over memory.
 use super::drive::{Heard, REQUEST, words_of, world_of};
 use super::lines::{ACCEPTED, shown, told};
-use crate::memory::{MemorySink, MemoryStore, MemoryWorld};
 use crate::{Status, run};
 use host_base::NoMemory;
+use memory_world::{MemorySink, MemoryStore, MemoryWorld};
 use std::alloc::Global;
 use std::process::Abort;
 use std::test::Fail;

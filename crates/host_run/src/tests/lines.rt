@@ -1,7 +1,7 @@
 // Traces as lines, an event at the margin and its acts below it, to compare whole traces.
-use crate::memory::MemoryWorld;
 use host_base::Launch;
 use host_trace::{Act, Event, Item};
+use memory_world::MemoryWorld;
 use std::alloc::Global;
 use std::process::Abort;
 use std::test::Fail;

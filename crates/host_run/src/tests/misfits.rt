@@ -8,7 +8,6 @@ use super::drive::{Heard, OUTPUT, REQUEST, event_of};
 use super::lines::{ACCEPTED, ANSWERED, BEGUN, PUT_OUT, STARTED, joined, lines_of};
 use super::words;
 use super::words::Heard as Misfit;
-use crate::memory::MemoryOutside;
 use Misfit::{
     Accepted, ChildBroken, ChildBytes, ChildEof, ClientBytes, ClientEof, ClientGone, Exited,
     InputGone, NoRoom, StartFailed, StartFull, Started, Stop, Took, Wrote, WsBad, WsBinary,
@@ -17,6 +16,7 @@ use Misfit::{
 use host_base::{NoMemory, Site};
 use host_core::Core;
 use host_trace::{Events, Item, Outside};
+use memory_world::MemoryOutside;
 use site_file::one_script;
 use std::alloc::Global;
 use std::process::Abort;

@@ -4,7 +4,9 @@ use super::drive::{
 };
 use super::lines::{ACCEPTED, BEGUN, STARTED, shown, told};
 use crate::Status;
-use crate::memory::MemoryWorld;
+use host_base::Site;
+use host_trace::{Item, Mode};
+use memory_world::MemoryWorld;
 use std::alloc::Global;
 use std::process::Abort;
 use std::test::Fail;
@@ -157,7 +159,6 @@ fn words_of_no_form(rt: HostRuntime) -> Result<(), Fail> {
     for words in [
         none.as_slice(),
         &["once"],
-        &["once", "/hello"],
         &["once", "x=/bin/cat"],
         &["once", "=/bin/cat"],
         &["once", "/=/bin/cat"],
@@ -167,9 +168,23 @@ fn words_of_no_form(rt: HostRuntime) -> Result<(), Fail> {
         &["once", "/hello=bin/cat"],
         &["once", "/hello=/bin/"],
         &["once", "/hello=/bin/cat", "more"],
-        &["serve", "/hello=/bin/cat"],
+        &["serve"],
+        &["serve", "x=/bin/cat"],
+        &["serve", "/hello=/bin/cat", "--turns"],
+        &["serve", "/hello=/bin/cat", "--turns", "0"],
+        &["serve", "/hello=/bin/cat", "--turns", "+1"],
+        &["serve", "/hello=/bin/cat", "--turns", ""],
+        &["serve", "/hello=/bin/cat", "--turns", "4611686018427387905"],
+        &[
+            "serve",
+            "/hello=/bin/cat",
+            "--turns",
+            "00000000000000000001",
+        ],
+        &["serve", "/hello=/bin/cat", "--turn", "1"],
+        &["once", "/hello=/bin/cat", "--turns", "1"],
         &["Once", "/hello=/bin/cat"],
-        &["once", "site"],
+        &["once", ""],
         &["check"],
         &["check", ""],
         &["check", "x=/bin/cat"],
@@ -179,7 +194,6 @@ fn words_of_no_form(rt: HostRuntime) -> Result<(), Fail> {
         &["explain", "x=/bin/cat"],
         &["help"],
         &["--help", "site"],
-        &["once", "--version"],
     ] {
         let mut world = world_of(rt.alloc(), &FIRST)?;
         let status = runs(&rt, rt.alloc(), words, &mut world)?;
@@ -214,5 +228,70 @@ fn a_world_that_refuses(rt: HostRuntime) -> Result<(), Fail> {
     assert!(rt; matches!(status, Status::WorldRefused));
     assert_eq!(rt; world.faults(), 1);
     assert_eq!(rt; world.given().len(), 0);
+    Ok(())
+}
+
+// ---- what the world is entered for
+
+fn has_script(site: &Site, path: &str) -> bool {
+    site.hosts.as_slice().iter().any(|host| host
+        .scripts
+        .as_slice()
+        .iter()
+        .any(|script| script.path.as_str() == path))
+}
+
+#[test]
+fn a_world_is_entered_for_one_connection(rt: HostRuntime) -> Result<(), Fail> {
+    let mut world = world_of(rt.alloc(), &FIRST)?;
+    let status = runs(&rt, rt.alloc(), &WORDS, &mut world)?;
+    assert!(rt; matches!(status, Status::Done));
+    assert!(rt; world.tells_entries());
+    match world.entries() {
+        [entry] => {
+            assert_eq!(rt; entry.mode, Mode::Once);
+            assert_eq!(rt; entry.loops, 1);
+            assert!(rt; has_script(&entry.site, "/cgi-bin/hello"));
+        }
+        _ => panic!(rt; "entered otherwise than once"),
+    }
+    Ok(())
+}
+
+#[test]
+fn turns_are_spent_over_sockets(rt: HostRuntime) -> Result<(), Fail> {
+    for (turns, events) in [("1", 1), ("2", 2), ("0000000000000000002", 2)] {
+        let mut world = world_of(rt.alloc(), &[Heard::Accepted, Heard::Tick, Heard::Tick])?;
+        let words = ["serve", "/cgi-bin/hello=/srv/cgi/hello", "--turns", turns];
+        let status = runs(&rt, rt.alloc(), &words, &mut world)?;
+        assert!(rt; matches!(status, Status::Spent), "{turns}");
+        match (world.given(), world.entries()) {
+            ([trace], [entry]) => {
+                let heard = trace
+                    .as_slice()
+                    .iter()
+                    .filter(|item| matches!(item, Item::In(_)))
+                    .count();
+                assert_eq!(rt; heard, events, "{turns}");
+                assert_eq!(rt; entry.mode, Mode::Serve, "{turns}");
+            }
+            _ => panic!(rt; "entered otherwise than once"),
+        }
+    }
+    Ok(())
+}
+
+#[test]
+fn a_site_that_is_not_read_enters_no_world(rt: HostRuntime) -> Result<(), Fail> {
+    for words in [
+        ["once", "site"].as_slice(),
+        &["serve", "site"],
+        &["serve", "site", "--turns", "2"],
+    ] {
+        let mut world = world_of(rt.alloc(), &FIRST)?;
+        let status = runs(&rt, rt.alloc(), words, &mut world)?;
+        assert!(rt; matches!(status, Status::SiteUnread));
+        assert_eq!(rt; world.entries().len(), 0);
+    }
     Ok(())
 }

@@ -1,10 +1,7 @@
-// Events and acts in short, so that tables may have many of them: of bytes only the number stands.
-use crate::memory::MemoryOutside;
-use host_base::{Bytes, Launch, NoMemory, Pairs, Peer, Text, Texts};
-use host_trace::{Act, Acted, Event, Events, Item, Outside, Why};
+// Events in short, so that tables may have many of them: of bytes only the number stands.
+use host_base::{Bytes, NoMemory, Peer, Text};
+use host_trace::Event;
 use std::alloc::Global;
-use std::process::Abort;
-use std::test::Fail;
 
 /// An event.
 #[derive(Clone, Copy, Debug, PartialEq, Eq)]
@@ -32,52 +29,12 @@ pub enum Heard {
     Stop,
 }
 
-/// An act. A Start is for connection 0, and a Says has one text.
-#[derive(Clone, Copy, Debug, PartialEq, Eq)]
-pub enum Asked {
-    WantClient(u64),
-    Write(u64, usize),
-    Shut(u64),
-    Start(u64),
-    Feed(u64, usize),
-    EndInput(u64),
-    WantChild(u64),
-    Kill(u64),
-    Release(u64),
-    Upgrade(u64),
-    Says(u64, usize),
-    CloseWs(u64),
-}
-
-/// An item of a trace.
-#[derive(Clone, Copy, Debug, PartialEq, Eq)]
-pub enum Word {
-    In(Heard),
-    Out(Asked),
-}
-
 fn bytes_of(alloc: Global, count: usize) -> Result<Bytes, NoMemory> {
     Ok(Bytes::from_vec(vec![in alloc; b'x'; count]?))
 }
 
-fn texts_of(alloc: Global, count: usize) -> Result<Texts, NoMemory> {
-    let text = "x".repeat(alloc, count)?;
-    let mut texts = Texts::new(alloc);
-    texts.push(Text::from_string(text))?;
-    Ok(texts)
-}
-
 fn peer(alloc: Global) -> Result<Peer, NoMemory> {
     Ok(Peer(Text::copy_of(alloc, "192.0.2.1")?))
-}
-
-fn launch(alloc: Global) -> Result<Launch, NoMemory> {
-    Ok(Launch {
-        program: Text::copy_of(alloc, "/srv/cgi/hello")?,
-        dir: Text::copy_of(alloc, "/srv/cgi")?,
-        args: Texts::new(alloc),
-        env: Pairs::new(alloc),
-    })
 }
 
 /// The event.
@@ -114,122 +71,4 @@ pub fn event_of(alloc: Global, heard: Heard) -> Result<Event, NoMemory> {
         Heard::Tick => Event::Tick { secs: 0 },
         Heard::Stop => Event::Stop,
     })
-}
-
-/// The event in short.
-pub fn heard_of(event: &Event) -> Heard {
-    match event {
-        Event::Accepted { .. } => Heard::Accepted,
-        Event::ClientBytes { c, bytes } => Heard::ClientBytes(*c, bytes.len()),
-        Event::ClientEof { c } => Heard::ClientEof(*c),
-        Event::ClientGone { c } => Heard::ClientGone(*c),
-        Event::Wrote { c, n } => Heard::Wrote(*c, *n),
-        Event::Started { k } => Heard::Started(*k),
-        Event::StartFailed { k } => Heard::StartFailed(*k),
-        Event::StartFull { k, seen } => Heard::StartFull(*k, *seen),
-        Event::ChildBytes { k, bytes } => Heard::ChildBytes(*k, bytes.len()),
-        Event::ChildEof { k } => Heard::ChildEof(*k),
-        Event::ChildBroken { k } => Heard::ChildBroken(*k),
-        Event::Took { k, n } => Heard::Took(*k, *n),
-        Event::InputGone { k } => Heard::InputGone(*k),
-        Event::Exited { k } => Heard::Exited(*k),
-        Event::WsText { c, bytes } => Heard::WsText(*c, bytes.len()),
-        Event::WsBinary { c } => Heard::WsBinary(*c),
-        Event::WsClosed { c } => Heard::WsClosed(*c),
-        Event::WsBad { c } => Heard::WsBad(*c),
-        Event::NoRoom { c } => Heard::NoRoom(*c),
-        Event::Tick { .. } => Heard::Tick,
-        Event::Stop => Heard::Stop,
-    }
-}
-
-/// The act.
-pub fn act_of(alloc: Global, asked: Asked) -> Result<Act, NoMemory> {
-    Ok(match asked {
-        Asked::WantClient(c) => Act::WantClient { c },
-        Asked::Write(c, n) => Act::Write {
-            c,
-            bytes: bytes_of(alloc, n)?,
-        },
-        Asked::Shut(c) => Act::Shut { c, why: Why::Done },
-        Asked::Start(k) => Act::Start {
-            k,
-            c: 0,
-            j: 0,
-            hop: 0,
-            launch: launch(alloc)?,
-        },
-        Asked::Feed(k, n) => Act::Feed {
-            k,
-            bytes: bytes_of(alloc, n)?,
-        },
-        Asked::EndInput(k) => Act::EndInput { k },
-        Asked::WantChild(k) => Act::WantChild { k },
-        Asked::Kill(k) => Act::Kill { k },
-        Asked::Release(k) => Act::Release { k },
-        Asked::Upgrade(c) => Act::Upgrade {
-            c,
-            rest: bytes_of(alloc, 0)?,
-        },
-        Asked::Says(c, n) => Act::Says {
-            c,
-            texts: texts_of(alloc, n)?,
-        },
-        Asked::CloseWs(c) => Act::CloseWs { c, code: 1000 },
-    })
-}
-
-/// The trace.
-pub fn items_of(alloc: Global, trace: &[Word]) -> Result<Vec<Item>, NoMemory> {
-    let mut items = Vec::new(alloc);
-    for word in trace {
-        items.push(match *word {
-            Word::In(heard) => Item::In(event_of(alloc, heard)?),
-            Word::Out(asked) => Item::Out(act_of(alloc, asked)?),
-        })?;
-    }
-    Ok(items)
-}
-
-/// The events.
-pub fn events_of(alloc: Global, list: &[Heard]) -> Result<Events, NoMemory> {
-    let mut events = Events::new(alloc);
-    for heard in list {
-        events.push(event_of(alloc, *heard)?)?;
-    }
-    Ok(events)
-}
-
-/// The outside hands up exactly these events.
-pub fn hears(rt: &impl Abort, out: &mut MemoryOutside, list: &[Heard]) {
-    for heard in list {
-        let event = out.next();
-        assert_eq!(rt; heard_of(&event), *heard);
-    }
-}
-
-/// The outside answers the act.
-pub fn answers(
-    rt: &impl Abort,
-    alloc: Global,
-    out: &mut MemoryOutside,
-    asked: Asked,
-    acted: Acted,
-) -> Result<(), Fail> {
-    let act = act_of(alloc, asked)?;
-    assert_eq!(rt; out.act(&act), acted, "{asked:?}");
-    Ok(())
-}
-
-/// The outside does exactly these acts.
-pub fn does(
-    rt: &impl Abort,
-    alloc: Global,
-    out: &mut MemoryOutside,
-    list: &[Asked],
-) -> Result<(), Fail> {
-    for asked in list {
-        answers(rt, alloc, out, *asked, Acted::Done)?;
-    }
-    Ok(())
 }

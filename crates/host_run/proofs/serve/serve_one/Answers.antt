@@ -4,8 +4,9 @@ use Rattle.host_trace.specs.declared.items.Item.{Item}
 use Rattle.host_trace.specs.Projections.{stopped}
 use Rattle.host_trace.specs.Account.{all_settled}
 use Rattle.host_core.specs.Good.{Good}
-use Rattle.host_run.specs.Served.{is_over}
-use Rattle.host_run.proofs.TurnLaws.{turned, never_over, first_over, not_settled, not_stopped}
+use Rattle.host_loop.specs.Served.{is_over}
+use Rattle.host_loop.proofs.OverLaws.{never_over, first_over, not_settled, not_stopped}
+use Rattle.host_run.proofs.TurnLaws.{turned}
 use Rattle.host_run.proofs.serve.serve_one.Goals.{else-stopped-via-then-stopped+else-all_settled, else-stopped-via-else-stopped}
 use Rattle.host_run.proofs.serve.serve_one.Goals as goal
 

@@ -4,7 +4,7 @@ use Rattle.host_trace.specs.declared.items.Item.{Item}
 use Rattle.host_core.specs.Stands.{Stands}
 use Rattle.host_core.specs.Knows.{site_of}
 use Rattle.host_trace.specs.Projections.{event_count}
-use Rattle.host_run.specs.Served.{is_over, over_count}
+use Rattle.host_loop.specs.Served.{is_over, over_count}
 use Rattle.host_run.proofs.serve.serve_one.Given as goal
 
 abbrev pub invariant-loop-turn : goal.invariant-loop-turn

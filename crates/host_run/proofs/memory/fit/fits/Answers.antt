@@ -1,5 +1,0 @@
--- A text of a WebSocket fits where its client was asked.
-use Rattle.host_run.proofs.memory.fit.fits.Goals as goal
-
-pub returns-in-WsText : goal.returns-in-WsText
-returns-in-WsText c = rw c.in-WsText.is c.is_asked_upgraded.ensures
