@@ -2,7 +2,6 @@
 //! what a socket carries.
 #![tactic(auto)]
 
-mod alarm;
 mod listener;
 mod network;
 mod poll;
@@ -11,7 +10,6 @@ mod socket;
 #[cfg(test)]
 mod tests;
 
-pub use alarm::Alarm;
 pub use listener::Listener;
 pub use network::{NetFault, Network};
 pub use ports::NetPorts;

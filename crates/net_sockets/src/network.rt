@@ -3,8 +3,9 @@ ghost use Rattle.std.specs.Prelude.{◌≡◌, ◌≤◌, ◌<◌, IfOk};
 ghost use Rattle.host_base.specs.Outsides.{Rose};
 ghost use Rattle.net_sockets.specs.Nets.{IsFresh};
 
-use super::{Alarm, Listener, NetPorts};
+use super::{Listener, NetPorts};
 use host_base::NoMemory;
+use loop_bell::Bell;
 use std::alloc::Global;
 use std::io;
 use std::io::ErrorKind;
@@ -64,7 +65,7 @@ impl<R: Net + Clock + Copy + Drop> Network<R> {
     }
 
     /// The ports of one loop at a listener, and what wakes the loop.
-    pub fn ports(&mut self, listener: Listener) -> Result<(NetPorts<R>, Alarm), NetFault>
+    pub fn ports(&mut self, listener: Listener) -> Result<(NetPorts<R>, Bell), NetFault>
         ensures fresh { IfOk result (λ made. IsFresh made.0) }
         ensures grown { self.old ≤ self.new }
         ensures failed { result ≡ Err NetFault.Failed → Rose self.old self.new }

@@ -5,8 +5,9 @@ ghost use Rattle.socket_set.specs.Devices.{is_answered};
 ghost use Rattle.net_sockets.specs.Nets.{IsFresh};
 
 use super::poll::CountedPoll;
-use super::{Alarm, Listener, TcpSocket};
+use super::{Listener, TcpSocket};
 use host_base::{Peer, Text};
+use loop_bell::Bell;
 use mio::net::TcpStream;
 use mio::{Interest, Token};
 use socket_set::{Arrival, Ports, Ready};
@@ -36,12 +37,12 @@ pub struct NetPorts<R> {
 
 impl<R: Net + Clock + Drop> NetPorts<R> {
     // The ports of a loop that shares the listener, and what wakes it.
-    pub(crate) fn new(rt: R, alloc: Global, listener: Listener) -> io::Result<(Self, Alarm)>
+    pub(crate) fn new(rt: R, alloc: Global, listener: Listener) -> io::Result<(Self, Bell)>
         ensures { IfOk result (λ made. IsFresh made.0) }
     {
         let poll = CountedPoll::new(&rt, alloc)?;
         poll.listen(listener.descriptor())?;
-        let alarm = Alarm::new(alloc, poll.waker()?)?;
+        let bell = Bell::by(alloc, poll.waker()?)?;
         let start = rt.monotonic()?;
         Ok((
             NetPorts {
@@ -55,7 +56,7 @@ impl<R: Net + Clock + Drop> NetPorts<R> {
                 waits: 0,
                 failed: 0,
             },
-            alarm,
+            bell,
         ))
     }
 }

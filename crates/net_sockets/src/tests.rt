@@ -1,4 +1,5 @@
-use super::{Alarm, NetFault, NetPorts, Network, TcpSocket};
+use super::{NetFault, NetPorts, Network, TcpSocket};
+use loop_bell::Bell;
 use socket_set::{Arrival, Ports, Ready, Received, Sent, Socket};
 use std::alloc::Global;
 use std::io::{Read, Write};
@@ -13,12 +14,12 @@ const WAITS: u32 = 50;
 fn listening<R: Net + Clock + Copy + Drop>(
     rt: R,
     alloc: Global,
-) -> Result<(NetPorts<R>, Alarm, u16), NetFault> {
+) -> Result<(NetPorts<R>, Bell, u16), NetFault> {
     let mut network = Network::new(rt, alloc);
     let listener = network.listen("127.0.0.1", 0)?;
     let port = listener.port();
-    let (ports, alarm) = network.ports(listener)?;
-    Ok((ports, alarm, port))
+    let (ports, bell) = network.ports(listener)?;
+    Ok((ports, bell, port))
 }
 
 // The next client, once it waits.
@@ -142,13 +143,13 @@ fn room_is_reported_once_it_is_asked_for(rt: HostRuntime) -> Result<(), Fail> {
 }
 
 #[test]
-fn an_alarm_ends_a_wait_and_the_clock_goes_on(rt: HostRuntime) -> Result<(), Fail> {
-    let Ok((mut ports, alarm, _)) = listening(rt, rt.alloc()) else {
+fn a_bell_ends_a_wait_and_the_clock_goes_on(rt: HostRuntime) -> Result<(), Fail> {
+    let Ok((mut ports, bell, _)) = listening(rt, rt.alloc()) else {
         return Err(Fail::from("it does not listen"));
     };
-    alarm.another()?.ring();
+    bell.another()?.ring();
     assert!(rt; ports.wait(20_000));
-    assert!(rt; ports.ticks() < 100, "the alarm ended the wait");
+    assert!(rt; ports.ticks() < 100, "the bell ended the wait");
     let before = ports.ticks();
     assert!(rt; ports.wait(150));
     assert!(rt; ports.ticks() > before);

@@ -10,6 +10,7 @@ mod from_pipe;
 mod hand;
 mod laws;
 mod pipe;
+mod pop;
 mod tap;
 mod to_pipe;
 

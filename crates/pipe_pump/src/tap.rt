@@ -3,6 +3,7 @@ ghost use Rattle.std.specs.Prelude.{◌≡◌, ◌++◌, Some};
 ghost use Rattle.rtrb.specs.Ring.{sent, received, known_items, IsPair};
 
 use super::RingEnd;
+use super::pop::pop;
 use crossbeam_utils::sync::Unparker;
 use rtrb::{Consumer, Producer};
 
@@ -55,7 +56,7 @@ impl Tap {
         ensures short { result < length into.old → standing self.new ≡ [] }
         ensures left { is_finished self.old ≡ true → standing self.old ≡ list_take result into.new ++ standing self.new }
     {
-        let taken = self.consumer.pop_partial_slice(into);
+        let taken = pop(&mut self.consumer, into);
         if taken > 0 {
             self.pump.unpark();
         }

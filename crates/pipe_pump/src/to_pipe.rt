@@ -11,6 +11,7 @@ ghost use Rattle.pipe_pump.specs.Moved.{Takes, Moves, TookFront, Stops};
 use super::feed_ring::FeedRing;
 use super::from_pipe::{MOST, PIECE};
 use super::hand::{Hand, OneRing};
+use super::pop::pop;
 use super::{PipeOut, PipeWrite, PumpDone, PumpEnd, RingEnd};
 use crossbeam_utils::sync::Parker;
 use rtrb::{Consumer, Producer};
@@ -188,7 +189,7 @@ fn move_some<P: PipeOut>(
     ensures most { OnOk result (total.new < 2 ^ 62) }
 {
     let room = buffer.len().min((MOST - *total) as usize);
-    let count = consumer.pop_partial_slice(&mut buffer[..room]);
+    let count = pop(consumer, &mut buffer[..room]);
     if count == 0 {
         return Ok(0);
     }

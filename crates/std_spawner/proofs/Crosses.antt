@@ -12,8 +12,7 @@ use Rattle.pump_pool.proofs.worker.Busy.TheSendSync as busy
 use Rattle.pump_pool.specs.contracts.outward.OutPump as OutPump
 use Rattle.pump_pool.specs.contracts.inward.InPump as InPump
 use Rattle.pump_pool.specs.contracts.inward.InHands as InHands
-use Rattle.std_spawner.specs.contracts.bell.Bell as Bell
-use Rattle.std_spawner.proofs.bell.Bell.TheSendSync as bell
+use Rattle.loop_bell.proofs.Crosses.{bell_send}
 use Rattle.std_spawner.specs.contracts.pipes.BelledPipe as BelledPipe
 use Rattle.std_spawner.specs.contracts.pipes.ChildInput as ChildInput
 use Rattle.std_spawner.specs.contracts.job.Pump as Pump
@@ -25,9 +24,6 @@ use Rattle.std_spawner.specs.contracts.kid.StdKid as StdKid
 use Rattle.std_spawner.specs.contracts.spawner.StdSpawner as StdSpawner
 use Rattle.std_spawner.specs.contracts.threads.IdleThreads as IdleThreads
 use Rattle.std_spawner.specs.contracts.threads.ThreadPool as ThreadPool
-
-pub bell_send : IsSend Bell.the_field.row
-bell_send = bell.the_field_send
 
 pub belled_send : (P : RattleType) → IsSend P → IsSend (BelledPipe.the_field P).row
 belled_send P s = search (sendable, crosses, bell_send) depth 20

@@ -1,3 +1,2 @@
-pub mod Bells
 pub mod Commands
 pub mod Kids

@@ -1,11 +1,11 @@
 // The pump of a child's input, which gets its thread once it has something to move.
 ghost use Rattle.pipe_pump.specs.Rings.{IsFreshFeed};
 
-use super::bell::Bell;
 use super::job::{Pump, PumpJob};
 use super::pipes::ChildInput;
 use super::threads::{StartThread, ThreadPool};
 use child_edge::SpawnFault;
+use loop_bell::Bell;
 use pipe_pump::{FeedLook, FeedRing, PumpDone, pump_in};
 use pump_pool::{Busy, InHands, InPump, Worker};
 use std::mem;

@@ -1,6 +1,6 @@
 // What a pump's thread runs.
-use super::bell::Bell;
 use super::pipes::{ChildInput, ChildOutput, StandardInput};
+use loop_bell::Bell;
 use pump_pool::{InJob, Job, OutJob, Station};
 use std::sync::Wait;
 use std::thread::Threads;

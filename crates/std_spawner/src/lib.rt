@@ -1,7 +1,6 @@
 //! Real children: programs of the system, whose pipes are pumped by threads that are used again.
 #![tactic(auto)]
 
-mod bell;
 mod command;
 mod input;
 mod job;
@@ -13,7 +12,6 @@ mod spawner;
 mod tests;
 mod threads;
 
-pub use bell::Bell;
 pub use job::PumpJob;
 pub use kid::StdKid;
 pub use pipes::{BelledPipe, ChildInput, ChildOutput, StandardInput};

@@ -1,7 +1,7 @@
 // Our ends of a child's pipes, and standard input.
 ghost use Rattle.std.specs.Prelude.{◌≡◌, ◌<◌, ◌≤◌, IfSome, length};
 
-use super::bell::Bell;
+use loop_bell::Bell;
 use pipe_pump::{PipeIn, PipeOut, PipeRead, PipeWrite};
 use std::io::{Read, Stdin, Write};
 use std::process::{ChildStdin, ChildStdout};

@@ -3,7 +3,6 @@ ghost use Rattle.std.specs.Prelude.{◌≡◌, IfOk};
 ghost use Rattle.pipe_pump.specs.Rings.{IsFreshRing, IsFreshFeed};
 ghost use Rattle.std_spawner.specs.Kids.{IsNewStdKid};
 
-use super::bell::Bell;
 use super::command::spawn;
 use super::input::{Held, Input};
 use super::job::{Pump, PumpJob};
@@ -12,6 +11,7 @@ use super::pipes::{ChildInput, ChildOutput, StandardInput};
 use super::threads::{StartThread, ThreadPool};
 use child_edge::{SpawnFault, Spawner};
 use host_base::{Launch, NoMemory};
+use loop_bell::Bell;
 use pipe_pump::{FeedRing, PumpRing};
 use pump_pool::{Busy, InHands, OutHands, OutPump, Worker};
 use std::alloc::Global;

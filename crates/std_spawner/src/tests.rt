@@ -7,6 +7,7 @@ use child_edge::{ChildSet, SpawnFault};
 use crossbeam_utils::sync::Parker;
 use host_base::{Launch, NoMemory, Pair, Pairs, Text, Texts};
 use host_trace::Event;
+use loop_bell::Bell;
 use pump_pool::Station;
 use std::alloc::{AllocError, Global};
 use std::process::{Processes, SystemProcess};
