@@ -9,6 +9,7 @@ use Rattle.host_trace.specs.declared.items.Act.{Act}
 use Rattle.host_trace.specs.declared.items.Act.TheVariants.{WantClient, Write, Shut, Start, Feed, EndInput, WantChild, Kill, Release, Upgrade, Says as SaysTexts, CloseWs}
 use Rattle.host_trace.specs.declared.items.Item.{Item}
 use Rattle.host_trace.specs.declared.outside.Acted.{Acted}
+use Rattle.host_trace.specs.declared.world.Entry.{Entry}
 use Rattle.host_trace.specs.declared.outside.Acted.TheVariants.{Done, NoRoom as HasNoRoom}
 use Rattle.host_trace.specs.Told.{is_failure}
 use Rattle.child_edge.specs.Kids.{KidTells}
@@ -43,12 +44,15 @@ pub record OnceState (K : Type 0) : Type 0 where
   pub limit : ℕ
   pub faults : ℕ
 
--- it tells no trace, and its world none that were given back
+-- it tells no trace, and its world none that were given back and not what it was entered for
 abbrev pub untold : {A : Type 0} → A → Option (List Item)
 untold _ = None
 
 abbrev pub none_given : {A : Type 0} → A → Option (List (List Item))
 none_given _ = None
+
+abbrev pub none_entered : {A : Type 0} → A → Option (List Entry)
+none_entered _ = None
 
 -- how often it found as many children as may run
 abbrev pub none_full : {A : Type 0} → A → ℕ

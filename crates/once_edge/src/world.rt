@@ -6,13 +6,14 @@ use child_edge::{ChildSet, SpawnFault};
 use crossbeam_utils::sync::Parker;
 use host_base::{NoMemory, Peer, Sink, Site, Text};
 use host_trace::{Act, Acted, EnterFault, Event, Mode, Outside, World};
+use loop_bell::Bell;
 use pipe_pump::rings;
 use std::alloc::Global;
 use std::io::Stdin;
 use std::process::{Processes, SystemProcess};
 use std::sync::Wait;
 use std::time::Clock;
-use std_spawner::{Bell, StandardInput, StartThread, StdSpawner};
+use std_spawner::{StandardInput, StartThread, StdSpawner};
 
 // How many bytes the ring of standard input has room for.
 const RING: usize = 65_536;
@@ -199,8 +200,8 @@ impl<
         }
     }
 
-    // Counts what was entered, and what failed.
-    fn enter_once(&mut self, site: &Site) -> Result<Vec<RealOutside<R, T, K>>, EnterFault>
+    /// Gives out the one outside, once.
+    pub fn enter_once(&mut self, site: &Site) -> Result<Vec<RealOutside<R, T, K>>, EnterFault>
         ensures count { IfOk result (λ outs. vec_len outs ≡ 1) }
         ensures limit { IfOk result (λ outs. All (λ o. o.limit ≡ site.now.limits.children) outs.items) }
         ensures room { IfOk result (λ outs. All (λ o. o.room ≡ site.now.limits.connections) outs.items) }
@@ -247,11 +248,14 @@ impl<
     ghost use Rattle.std.specs.Prelude.{◌≡◌, ◌≤◌, ◌<◌, ◌+◌, IfOk, OnOk, OnErr, All, map, vec_len};
     ghost use Rattle.host_base.specs.Outsides.{Rose};
     ghost use Rattle.host_trace.specs.Told.{IsNew, Joins};
-    ghost use Rattle.once_edge.specs.Once.{untold, none_given, IsFresh};
+    ghost use Rattle.host_trace.specs.Entries.{Enters, entry_of};
+    ghost use Rattle.once_edge.specs.Once.{untold, none_given, none_entered, IsFresh};
 
     type Out = RealOutside<R, T, K>;
 
     ghost given = { none_given };
+
+    ghost entries = { none_entered };
 
     ghost out = { λ w. w.out };
 
@@ -271,6 +275,7 @@ impl<
         ensures room { IfOk result (λ outs. All (λ o. o.room ≡ site.now.limits.connections) outs.items) }
         ensures fresh { IfOk result (λ outs. All IsFresh outs.items) }
         ensures out { OnOk result (self.new.out ≡ self.old.out + loops) }
+        ensures entered { Enters (none_entered self.old) (entry_of mode site.now loops) (none_entered self.new) }
         ensures given { none_given self.new ≡ none_given self.old }
         ensures err { OnErr result (self.new.out ≡ self.old.out) }
         ensures faults { self.old.faults ≤ self.new.faults }
@@ -288,6 +293,7 @@ impl<
     fn leave(&mut self, outs: Vec<RealOutside<R, T, K>>)
         requires { vec_len outs ≤ self.old.out }
         ensures given { Joins (none_given self.old) (map untold outs.items) (none_given self.new) }
+        ensures entries { none_entered self.new ≡ none_entered self.old }
         ensures out { self.new.out + vec_len outs ≡ self.old.out }
         ensures faults { self.old.faults ≤ self.new.faults }
     {
