@@ -1,0 +1,9 @@
+use Rattle.std.proofs.Common.{◌≡◌, ◌+◌}
+use Rattle.std.specs.Vec.Iter.{into_iter_len}
+use Rattle.edge_loop.proofs.stock.take_back.Given as goal
+
+abbrev pub invariant-loop-out : goal.invariant-loop-out
+invariant-loop-out g l = (l.rest.amount ≡ 0) × (l.rest.parts + into_iter_len l.outs ≡ l.initial.rest.parts + into_iter_len l.initial.outs)
+
+abbrev pub decreases-loop-out : goal.decreases-loop-out
+decreases-loop-out g l = into_iter_len l.outs

@@ -1,0 +1,261 @@
+-- What the outside of one loop remembers, and which event comes next.
+use Rattle.std.specs.Prelude.{◌≡◌, ℕ, ◌≤◌, ◌+◌, ◌-◌, ◌^◌, ◌⊎◌, min, Bool, true, false, List, [], ◌∷◌, ◌++◌, count_by, Option, Some, None, ⊤}
+use Rattle.std.specs.List.{All}
+use Rattle.host_base.specs.Outsides.{Rose}
+use Rattle.host_base.specs.declared.launch.Launch.{Launch}
+use Rattle.host_trace.specs.declared.items.Event.{Event}
+use Rattle.host_trace.specs.declared.items.Event.TheVariants.{StartFailed, NoRoom, Tick, Stop}
+use Rattle.host_trace.specs.declared.items.Act.{Act}
+use Rattle.host_trace.specs.declared.items.Act.TheVariants.{WantClient, Write, Shut, Start, Feed, EndInput, WantChild, Kill, Release, Upgrade, Says, CloseWs}
+use Rattle.host_trace.specs.declared.items.Item.{Item}
+use Rattle.host_trace.specs.declared.outside.Acted.{Acted}
+use Rattle.host_trace.specs.declared.outside.Acted.TheVariants.{Done, NoRoom as HasNoRoom}
+use Rattle.host_trace.specs.Told.{is_failure, is_full_book}
+use Rattle.child_edge.specs.Kids.{KidTells}
+use Rattle.child_edge.specs.declared.row.Row.{Row}
+use Rattle.child_edge.specs.Rows.{OneSays, Each, Rests, kept, is_kept}
+use Rattle.booked_children.specs.Booked.{Begins, ChildrenDo}
+use Rattle.socket_set.specs.Sets.{SetState, Tells, IsQuiet as IsQuietSet, Counted as CountedBySet, Acts as SetActs, clients, is_open_at}
+use Rattle.edge_loop.specs.Orders.{ticked, ordered_by, stopped_by}
+use Rattle.edge_loop.specs.declared.orders.Order.{Order}
+use Rattle.edge_loop.specs.declared.orders.Order.TheVariants.{Stop as StopNow, Drain}
+use Rattle.edge_loop.specs.declared.asked.Asked.{Asked}
+use Rattle.edge_loop.specs.declared.ending.Ending.{Ending}
+
+pub record LoopState (K : Type 0) : Type 0 where
+  -- the clients
+  pub set : SetState
+  -- what is kept of each child
+  pub rows : List (Row K)
+  -- the children that are to be started, the first to be asked for first
+  pub starts : List Asked
+  -- a child that found no memory, until it is told not to have been started
+  pub unstarted : Option ℕ
+  pub ending : Ending
+  -- how often the book was full, and how often a child failed
+  pub full : ℕ
+  pub child_faults : ℕ
+  -- how many children may run
+  pub limit : ℕ
+
+-- it tells no trace, and its world none that were given back
+abbrev pub untold : {A : Type 0} → A → Option (List Item)
+untold _ = None
+
+abbrev pub none_given : {A : Type 0} → A → Option (List (List Item))
+none_given _ = None
+
+-- how often something failed
+abbrev pub faults_of : {K : Type 0} → LoopState K → ℕ
+faults_of s = min (s.set.faults + s.child_faults) (2 ^ 64 - 1)
+
+-- an act on a child that runs, and an act on a client
+abbrev pub is_on_child : Act → Bool
+is_on_child (Feed k bytes) = true
+is_on_child (EndInput k) = true
+is_on_child (WantChild k) = true
+is_on_child (Kill k) = true
+is_on_child (Release k) = true
+is_on_child _ = false
+
+abbrev pub is_start : Act → Bool
+is_start (Start k c j hop launch) = true
+is_start _ = false
+
+-- how the end goes on after an event of a client or of the clock
+abbrev pub ending_after : Event → Ending → Ending
+ending_after (Tick secs) ending = ticked ending
+ending_after _ ending = ending
+
+-- the child for which no memory was found
+abbrev pub unstarted_by : Event → ℕ → Option ℕ → Option ℕ
+unstarted_by (NoRoom c) k before = Some k
+unstarted_by _ k before = before
+
+-- NoRoom is told of a connection that is open
+abbrev pub TellsOpen : Event → SetState → Type 0
+TellsOpen (NoRoom c) set = is_open_at (clients set c) ≡ true
+TellsOpen _ set = ⊤
+
+module _ {K : Type 0} where
+  -- no client, no child, and nothing was ordered
+  pub record IsNew (set : SetState) (limit : ℕ) (s : LoopState K) : Type 0 where
+    pub set_is : s.set ≡ set
+    pub rows : s.rows ≡ []
+    pub starts : s.starts ≡ []
+    pub unstarted : s.unstarted ≡ None
+    pub counts : (s.full ≡ 0) × (s.child_faults ≡ 0)
+    pub limit_is : s.limit ≡ limit
+
+  -- nothing of a child was told, and those that are settled may be gone
+  abbrev pub ChildrenRest : (K → KidTells) → List (Row K) → List (Row K) → Type 0
+  ChildrenRest tells rows now = (now ≡ rows) ⊎ Each (Rests tells) (kept rows) now
+
+  -- what is to be told besides of clients and of children that run is the same
+  pub record SameDue (old new : LoopState K) : Type 0 where
+    pub starts : new.starts ≡ old.starts
+    pub unstarted : new.unstarted ≡ old.unstarted
+
+  -- counts never fall, and each failure of the ports is counted
+  pub record Counts (old new : LoopState K) : Type 0 where
+    pub limit : new.limit ≡ old.limit
+    pub set : CountedBySet old.set new.set
+    pub children : old.child_faults ≤ new.child_faults
+    pub full : old.full ≤ new.full
+
+  -- nothing was told
+  pub record IsQuiet (tells : K → KidTells) (old new : LoopState K) : Type 0 where
+    pub set : IsQuietSet old.set new.set
+    pub rows : ChildrenRest tells old.rows new.rows
+    pub due : SameDue old new
+    pub ending : new.ending ≡ old.ending
+
+  -- an event of failure comes only where a count of faults rose, and a full book only where that was counted
+  pub record Counted (event : Event) (old new : LoopState K) : Type 0 where
+    pub counts : Counts old new
+    pub failure : is_failure event ≡ true → Rose old.set.faults new.set.faults ⊎ Rose old.child_faults new.child_faults
+    pub full_book : is_full_book event ≡ true → Rose old.full new.full
+
+  -- a client or the clock gave the event, by its clauses
+  pub record OfClient (tells : K → KidTells) (event : Event) (old new : LoopState K) : Type 0 where
+    pub says : Tells event old.set new.set
+    pub rows : ChildrenRest tells old.rows new.rows
+    pub due : SameDue old new
+    pub ending : new.ending ≡ ending_after event old.ending
+
+  -- one child that was kept gave the event, by its clauses
+  pub record OfChild (tells : K → KidTells) (event : Event) (old new : LoopState K) : Type 0 where
+    pub says : OneSays tells event (kept old.rows) new.rows
+    pub set : IsQuietSet old.set new.set
+    pub due : SameDue old new
+    pub ending : new.ending ≡ old.ending
+
+  -- nothing is under way: no child is kept, none is to be started, and nothing waits to be sent
+  pub record IsStill (s : LoopState K) : Type 0 where
+    pub none_kept : count_by is_kept s.rows ≡ 0
+    pub none_asked : s.starts ≡ []
+    pub sent : All (λ row. row.1.outgoing ≡ []) s.set.rows
+
+  -- an end was ordered, or a quiet end that is reached, or was ordered 300 ticks ago
+  abbrev pub EndsBy : LoopState K → Type 0
+  EndsBy s = (s.ending.ordered ≡ true) ⊎ ((s.ending.draining ≡ true) × (IsStill s ⊎ (300 ≤ s.ending.ticks)))
+
+  -- .. and Stop was not given
+  pub record IsStopDue (s : LoopState K) : Type 0 where
+    pub first : s.ending.stopped ≡ false
+    pub cause : EndsBy s
+
+  -- Stop is given, for that cause and for the first time
+  pub record OfOrder (tells : K → KidTells) (event : Event) (old new : LoopState K) : Type 0 where
+    pub is_stop : event ≡ Stop
+    pub set : IsQuietSet old.set new.set
+    pub rows : ChildrenRest tells old.rows new.rows
+    pub due : SameDue old new
+    pub first : old.ending.stopped ≡ false
+    pub ending : new.ending ≡ stopped_by old.ending
+    pub cause : EndsBy new
+
+  -- a child was tried to be started
+  pub record IsBegun (tells : K → KidTells) (asked : Asked) (event : Event) (old new : LoopState K) : Type 0 where
+    pub begins : Begins tells asked.k asked.c event old.rows new.rows
+    pub unstarted : new.unstarted ≡ unstarted_by event asked.k old.unstarted
+    pub starts : new.starts ≡ old.starts
+    pub set : new.set ≡ old.set
+    pub ending : new.ending ≡ old.ending
+
+  -- no memory was found for child k, which is told of its connection c, or else that it was not started
+  abbrev pub ToldNoRoom : ℕ → ℕ → Event → LoopState K → LoopState K → Type 0
+  ToldNoRoom k c event old new =
+      ((is_open_at (clients old.set c) ≡ true) × (event ≡ NoRoom c) × (new ≡ record old { unstarted = Some k })) ⊎ ((event ≡ StartFailed k) × (new ≡ record old { child_faults = new.child_faults }))
+
+  -- the first child that was asked for was tried to be started, once all before it were answered
+  pub record OfStart (tells : K → KidTells) (event : Event) (old new : LoopState K) : Type 0 where
+    pub asked : Asked
+    pub answered : old.unstarted ≡ None
+    pub first : old.starts ≡ asked ∷ new.starts
+    pub begins : Begins tells asked.k asked.c event old.rows new.rows
+    pub reachable : TellsOpen event old.set
+    pub unstarted : new.unstarted ≡ unstarted_by event asked.k old.unstarted
+    pub set : new.set ≡ old.set
+    pub ending : new.ending ≡ old.ending
+
+  -- a child found no memory
+  pub record OfUnstarted (event : Event) (old new : LoopState K) : Type 0 where
+    pub k : ℕ
+    pub found_none : old.unstarted ≡ Some k
+    pub event_is : event ≡ StartFailed k
+    pub told : new ≡ record old { unstarted = None; child_faults = new.child_faults }
+
+  -- what is due before anything is waited for
+  abbrev pub IsDue : (K → KidTells) → Event → LoopState K → LoopState K → Type 0
+  IsDue tells event old new = OfUnstarted event old new ⊎ OfStart tells event old new
+
+  -- what is waited for
+  abbrev pub IsHeard : (K → KidTells) → Event → LoopState K → LoopState K → Type 0
+  IsHeard tells event old new = OfClient tells event old new ⊎ OfChild tells event old new ⊎ OfOrder tells event old new
+
+  -- every start was answered
+  pub record HasNoneDue (s : LoopState K) : Type 0 where
+    pub unstarted : s.unstarted ≡ None
+    pub starts : s.starts ≡ []
+
+  -- The event is owed: it has a cause in what was asked, heard and ordered, and is told once. What is due comes before
+  -- what is waited for.
+  abbrev pub IsOwed : (K → KidTells) → Event → LoopState K → LoopState K → Type 0
+  IsOwed tells event old new = IsDue tells event old new ⊎ (HasNoneDue old × IsHeard tells event old new)
+
+  -- what an order does to it
+  abbrev pub after_order : Option Order → LoopState K → LoopState K
+  after_order None s = s
+  after_order (Some StopNow) s = record s { ending = ordered_by StopNow s.ending }
+  after_order (Some Drain) s = record s { ending = ordered_by Drain s.ending; set = record (s.set) { listening = false } }
+
+  -- an order was heard, if one came
+  pub record TakesOrder (old new : LoopState K) : Type 0 where
+    pub order : Option Order
+    pub is_now : new ≡ after_order order old
+
+  -- an order was heard, if one came, and then the event is owed
+  pub record OwedAfterOrder (tells : K → KidTells) (event : Event) (old new : LoopState K) : Type 0 where
+    pub mid : LoopState K
+    pub ordered : TakesOrder old mid
+    pub owed : IsOwed tells event mid new
+
+  -- ---- acts
+
+  -- a child is to be started, behind the others
+  pub record Asks (k c : ℕ) (launch : Launch) (old new : LoopState K) : Type 0 where
+    pub asked : Asked
+    pub number : asked.k ≡ k
+    pub connection : asked.c ≡ c
+    pub launch_is : asked.launch ≡ launch
+    pub added : new ≡ record old { starts = old.starts ++ asked ∷ [] }
+
+  -- the children were changed so, and nothing else
+  pub record OnChildren (R : List (Row K) → List (Row K) → Type 0) (old new : LoopState K) : Type 0 where
+    pub changed : R old.rows new.rows
+    pub same : new ≡ record old { rows = new.rows }
+
+  -- the clients were changed so, and nothing else
+  pub record OnClients (R : SetState → SetState → Type 0) (old new : LoopState K) : Type 0 where
+    pub changed : R old.set new.set
+    pub same : new ≡ record old { set = new.set }
+
+  abbrev pub Starts : ℕ → ℕ → Launch → Acted → LoopState K → LoopState K → Type 0
+  Starts k c launch Done old new = Asks k c launch old new
+  Starts k c launch HasNoRoom old new = new ≡ old
+
+  -- what an act does; one that finds no room does nothing
+  abbrev pub Acts : (K → KidTells) → Act → Acted → LoopState K → LoopState K → Type 0
+  Acts tells (Start k c j hop launch) acted old new = Starts k c launch acted old new
+  Acts tells (Feed k bytes) acted old new = OnChildren (ChildrenDo tells (Feed k bytes) acted) old new
+  Acts tells (EndInput k) acted old new = OnChildren (ChildrenDo tells (EndInput k) acted) old new
+  Acts tells (WantChild k) acted old new = OnChildren (ChildrenDo tells (WantChild k) acted) old new
+  Acts tells (Kill k) acted old new = OnChildren (ChildrenDo tells (Kill k) acted) old new
+  Acts tells (Release k) acted old new = OnChildren (ChildrenDo tells (Release k) acted) old new
+  Acts tells (Write c bytes) acted old new = OnClients (SetActs (Write c bytes) acted) old new
+  Acts tells (Upgrade c rest) acted old new = OnClients (SetActs (Upgrade c rest) acted) old new
+  Acts tells (WantClient c) acted old new = OnClients (SetActs (WantClient c) acted) old new
+  Acts tells (Says c texts) acted old new = OnClients (SetActs (Says c texts) acted) old new
+  Acts tells (CloseWs c code) acted old new = OnClients (SetActs (CloseWs c code) acted) old new
+  Acts tells (Shut c why) acted old new = OnClients (SetActs (Shut c why) acted) old new

@@ -1,0 +1,532 @@
+// The outside of one loop.
+ghost use Rattle.std.specs.Prelude.{◌≡◌, [], All, is_ok, if◌then◌else◌};
+
+use super::{Asked, Ending, Order, Orders};
+use booked_children::BookedChildren;
+use child_book::{Ledger, Share};
+use child_edge::Spawner;
+use host_base::{Launch, NoMemory};
+use host_trace::{Act, Acted, Event, Why};
+use socket_set::{Polled, Ports, SocketSet};
+use std::alloc::Global;
+use std::marker::Model;
+use std::sync::Wait;
+use std::thread::yield_now;
+
+// After a child is to leave, as at the end of its output, all are asked so often with no wait: an exit comes soon.
+const SOON: u32 = 16;
+
+// Then the shortest and the longest wait, in milliseconds. What nothing wakes the loop for, as an exit, is asked for
+// after each.
+const LEAST: u64 = 1;
+
+const MOST: u64 = 100;
+
+// After so many events of children in a row the clients and the clock are asked first: a child whose output is dropped
+// always has more to tell.
+const IN_ROW: u32 = 16;
+
+/// The clients and the children of one loop, and the orders that end it. It can't be dropped: `end` ends its children
+/// and gives its part of the ledger back.
+pub struct NetOutside<P: Ports, S: Spawner, O: Orders, L: Ledger, R> {
+    rt: R,
+    sockets: SocketSet<P>,
+    children: BookedChildren<S, L, R>,
+    orders: O,
+    starts: Vec<Asked>,
+    unstarted: Option<u64>,
+    ending: Ending,
+    // So often it doesn't wait.
+    soon: u32,
+    // How many milliseconds it waits next, at most.
+    pause: u64,
+    // How many events of children came in a row.
+    in_row: u32,
+    limit: u32,
+}
+
+impl<P: Ports, S: Spawner, O: Orders, L: Ledger, R> Model for NetOutside<P, S, O, L, R> {
+    ghost use Rattle.std.specs.Prelude.{◌≡◌, true};
+    ghost use Rattle.edge_loop.specs.Loops.{LoopState};
+
+    ghost Value = { LoopState S.Kid };
+
+    ghost view = { λ o.
+        record {
+          set = o.sockets;
+          rows = o.children.set.rows.items;
+          starts = o.starts.items;
+          unstarted = o.unstarted;
+          ending = o.ending;
+          full = o.children.full;
+          child_faults = o.children.faults;
+          limit = o.limit;
+        } };
+
+    // It ends only where that was ordered.
+    ghost invariant = { λ o.
+        (o.ending.ordered ≡ true → (O.told o.orders).stop ≡ true)
+        × (o.ending.draining ≡ true → (O.told o.orders).drain ≡ true) };
+}
+
+impl<
+    P: Ports + Drop,
+    S: Spawner + Drop,
+    O: Orders + Drop,
+    L: Ledger,
+    R: Wait + Copy + Drop,
+> NetOutside<P, S, O, L, R> {
+    ghost use Rattle.std.specs.Prelude.{◌≡◌, ◌≤◌, ◌<◌, ◌⊎◌, [], true, false, None, length, count_by, All, IfOk, IfSome, IsSome, IsNone, OnOk, OnErr};
+    ghost use Rattle.host_base.specs.Outsides.{Rose};
+    ghost use Rattle.host_trace.specs.Told.{is_failure, is_full_book, carries_nothing};
+    ghost use Rattle.child_edge.specs.Rows.{OneSays, Each, IsQuiet as IsQuietRow, kept, is_kept};
+    ghost use Rattle.booked_children.specs.Booked.{Begins, ChildrenDo};
+    ghost use Rattle.socket_set.specs.Sets.{IsQuiet as IsQuietSet, Tells, Acts as SetActs, told_by};
+    ghost use Rattle.socket_set.specs.Clients.{has_failed};
+    ghost use Rattle.edge_loop.specs.Orders.{stopped_by};
+    ghost use Rattle.edge_loop.specs.Loops.{faults_of, IsNew, IsQuiet, Counts, Counted, IsDue, HasNoneDue, IsHeard, IsOwed, OwedAfterOrder, TakesOrder, ending_after, OfClient, OfChild, OfStart, OfOrder, IsBegun, TellsOpen, ToldNoRoom, IsStill, IsStopDue, Asks, Acts, Starts, OnChildren, OnClients};
+
+    /// A loop of which nothing was heard, over clients and children of whom none came. Whoever gives its orders and its
+    /// children wakes its ports.
+    pub fn new(
+        rt: R,
+        alloc: Global,
+        sockets: SocketSet<P>,
+        children: BookedChildren<S, L, R>,
+        orders: O,
+        limit: u32,
+    ) -> Self
+        requires rows { children.set.rows.items ≡ [] }
+        requires counts { (children.full ≡ 0) × (children.faults ≡ 0) }
+        ensures { IsNew sockets limit result }
+    {
+        NetOutside {
+            rt,
+            sockets,
+            children,
+            orders,
+            starts: Vec::new(alloc),
+            unstarted: None,
+            ending: Ending::none(),
+            soon: 0,
+            pause: MOST,
+            in_row: 0,
+            limit,
+        }
+    }
+
+    /// How often anything failed.
+    pub fn faults(&self) -> u64
+        ensures { result ≡ faults_of self.now }
+    {
+        let (faults, _) = self.children.counts();
+        self.sockets.faults().saturating_add(faults)
+    }
+
+    // ---- events
+
+    /// The next event, after the next order was heard, if one came. It sleeps until there is an event.
+    pub fn next_event(&mut self) -> Event
+        ensures owed { OwedAfterOrder S.Kid.tells result self.old self.new }
+        ensures counted { Counted result self.old self.new }
+    {
+        self.take_order();
+        self.tell()
+    }
+
+    // Hears the next order. Once a quiet end was ordered no further client is accepted.
+    fn take_order(&mut self)
+        ensures { TakesOrder self.old self.new }
+    {
+        match self.orders.next_order() {
+            Some(Order::Stop) => self.ending.order(Order::Stop),
+            Some(Order::Drain) => {
+                self.ending.order(Order::Drain);
+                self.sockets.end_listening();
+            }
+            None => {}
+        }
+    }
+
+    fn tell(&mut self) -> Event
+        ensures owed { IsOwed S.Kid.tells result self.old self.new }
+        ensures counted { Counted result self.old self.new }
+    {
+        if let Some(event) = self.tell_due() {
+            return event;
+        }
+        self.wait_for_event()
+    }
+
+    fn wait_for_event(&mut self) -> Event
+        ensures heard { IsHeard S.Kid.tells result self.old self.new }
+        ensures counted { Counted result self.old self.new }
+    {
+        let rt = self.rt;
+        for _ in rt.forever() {
+            match self.turn() {
+                Some(event) => return event,
+                None => {}
+            }
+        }
+        unreachable!()
+    }
+
+    // Asks all, and waits where none has anything to tell.
+    fn turn(&mut self) -> Option<Event>
+        ensures some { IfSome result (λ event. IsHeard S.Kid.tells event self.old self.new × Counted event self.old self.new) }
+        ensures none { IsNone result → IsQuiet S.Kid.tells self.old self.new × Counts self.old self.new }
+    {
+        match self.hear() {
+            Some(event) => Some(event),
+            None => {
+                self.rest();
+                None
+            }
+        }
+    }
+
+    // Waits until a client, a child or the clock has something to tell.
+    fn rest(&mut self)
+        ensures quiet { IsQuiet S.Kid.tells self.old self.new }
+        ensures counts { Counts self.old self.new }
+    {
+        let millis = self.next_pause();
+        self.sockets.wait(millis);
+    }
+
+    fn next_pause(&mut self) -> u64
+        ensures { self.new ≡ self.old }
+    {
+        if self.soon > 0 {
+            self.soon -= 1;
+            yield_now();
+            return 0;
+        }
+        let pause = self.pause;
+        self.pause = pause.saturating_mul(2).clamp(LEAST, MOST);
+        pause
+    }
+
+    // What is told before anything is waited for.
+    fn tell_due(&mut self) -> Option<Event>
+        ensures some { IfSome result (λ event. IsDue S.Kid.tells event self.old self.new × Counted event self.old self.new) }
+        ensures none { IsNone result → (self.new ≡ self.old) × HasNoneDue self.old }
+    {
+        if let Some(k) = self.unstarted.take() {
+            return Some(self.fail(k));
+        }
+        if self.starts.is_empty() {
+            return None;
+        }
+        Some(self.start_first())
+    }
+
+    // Tells that child k was not started, and counts it.
+    fn fail(&mut self, k: u64) -> Event
+        ensures event { result ≡ Event.StartFailed k }
+        ensures same { self.new ≡ record self.old { child_faults = self.new.child_faults } }
+        ensures rose { Rose self.old.child_faults self.new.child_faults }
+        ensures grown { self.old.child_faults ≤ self.new.child_faults }
+    {
+        self.children.fail(k)
+    }
+
+    // Tries to start the first that was asked for.
+    fn start_first(&mut self) -> Event
+        requires some { 0 < length self.old.starts }
+        requires answered { self.old.unstarted ≡ None }
+        ensures start { OfStart S.Kid.tells result self.old self.new }
+        ensures counted { Counted result self.old self.new }
+    {
+        let asked = self.starts.remove(0);
+        self.begin(&asked)
+    }
+
+    #[tactic(auto, using(crate::proofs::Causes::told_open, crate::proofs::Causes::open_other))]
+    fn begin(&mut self, asked: &Asked) -> Event
+        ensures begins { IsBegun S.Kid.tells asked.now result self.old self.new }
+        ensures reachable { TellsOpen result self.old.set }
+        ensures counted { Counted result self.old self.new }
+    {
+        match self.children.begin(asked.k, asked.c, &asked.launch) {
+            Event::NoRoom { c } => self.tell_no_room(asked.k, c),
+            event => event,
+        }
+    }
+
+    // No memory was found for child k, and that is told of its connection, unless that is over.
+    fn tell_no_room(&mut self, k: u64, c: u64) -> Event
+        ensures told { ToldNoRoom k c result self.old self.new }
+        ensures counted { Counted result self.old self.new }
+    {
+        if self.sockets.is_open(c) {
+            self.unstarted = Some(k);
+            Event::NoRoom { c }
+        } else {
+            self.fail(k)
+        }
+    }
+
+    // What is to be told, if anything is: that it ends, or else what a child has to tell, or else a client.
+    fn hear(&mut self) -> Option<Event>
+        ensures some { IfSome result (λ event. IsHeard S.Kid.tells event self.old self.new × Counted event self.old self.new) }
+        ensures none { IsNone result → IsQuiet S.Kid.tells self.old self.new × Counts self.old self.new }
+    {
+        match self.hear_end() {
+            Some(event) => Some(event),
+            None => self.hear_rest(),
+        }
+    }
+
+    // The children before the clients, but not for ever.
+    fn hear_rest(&mut self) -> Option<Event>
+        ensures some { IfSome result (λ event. IsHeard S.Kid.tells event self.old self.new × Counted event self.old self.new) }
+        ensures none { IsNone result → IsQuiet S.Kid.tells self.old self.new × Counts self.old self.new }
+    {
+        if self.in_row < IN_ROW {
+            self.hear_child_first()
+        } else {
+            self.hear_client_first()
+        }
+    }
+
+    fn hear_child_first(&mut self) -> Option<Event>
+        ensures some { IfSome result (λ event. IsHeard S.Kid.tells event self.old self.new × Counted event self.old self.new) }
+        ensures none { IsNone result → IsQuiet S.Kid.tells self.old self.new × Counts self.old self.new }
+    {
+        match self.hear_child() {
+            Some(event) => Some(event),
+            None => self.hear_client(),
+        }
+    }
+
+    fn hear_client_first(&mut self) -> Option<Event>
+        ensures some { IfSome result (λ event. IsHeard S.Kid.tells event self.old self.new × Counted event self.old self.new) }
+        ensures none { IsNone result → IsQuiet S.Kid.tells self.old self.new × Counts self.old self.new }
+    {
+        match self.hear_client() {
+            Some(event) => Some(event),
+            None => self.hear_child(),
+        }
+    }
+
+    // Stop, where it is due.
+    fn hear_end(&mut self) -> Option<Event>
+        ensures some { IfSome result (λ event. OfOrder S.Kid.tells event self.old self.new × Counted event self.old self.new) }
+        ensures none { IsNone result → self.new ≡ self.old }
+    {
+        if self.is_stop_due() {
+            Some(self.stop())
+        } else {
+            None
+        }
+    }
+
+    #[tactic(auto, using(crate::proofs::Stops::due_why))]
+    fn is_stop_due(&self) -> bool
+        ensures { result ≡ true → IsStopDue self.now }
+    {
+        self.ending.is_due(self.is_still())
+    }
+
+    fn stop(&mut self) -> Event
+        ensures event { result ≡ Event.Stop }
+        ensures told { self.new ≡ record self.old { ending = stopped_by self.old.ending } }
+    {
+        self.ending.stop();
+        Event::Stop
+    }
+
+    // Nothing is under way.
+    fn is_still(&self) -> bool
+        ensures { result ≡ true → IsStill self.now }
+    {
+        self.ending.draining
+            && self.starts.is_empty()
+            && self.children.is_empty()
+            && self.sockets.is_all_sent()
+    }
+
+    fn hear_child(&mut self) -> Option<Event>
+        ensures some { IfSome result (λ event. OfChild S.Kid.tells event self.old self.new × Counted event self.old self.new) }
+        ensures none { IsNone result → IsQuiet S.Kid.tells self.old self.new × Counts self.old self.new }
+    {
+        let event = self.children.poll()?;
+        self.pause = pause_after(&event, self.pause);
+        self.soon = soon_after(&event, self.soon);
+        self.in_row = self.in_row.saturating_add(1);
+        Some(event)
+    }
+
+    fn hear_client(&mut self) -> Option<Event>
+        ensures some { IfSome result (λ event. OfClient S.Kid.tells event self.old self.new × Counted event self.old self.new) }
+        ensures none { IsNone result → IsQuiet S.Kid.tells self.old self.new × Counts self.old self.new }
+    {
+        self.in_row = 0;
+        match self.sockets.poll() {
+            Polled::Told(event) => {
+                self.note(&event);
+                Some(event)
+            }
+            Polled::Nothing => None,
+            Polled::Again => {
+                self.soon = self.soon.max(1);
+                None
+            }
+        }
+    }
+
+    // A tick counts once a quiet end was ordered.
+    fn note(&mut self, event: &Event)
+        ensures { self.new ≡ record self.old { ending = ending_after event.now self.old.ending } }
+    {
+        match event {
+            Event::Tick { .. } => self.ending.tick(),
+            _ => {}
+        }
+    }
+
+    // ---- acts
+
+    /// Does an act.
+    pub fn do_act(&mut self, act: &Act) -> Acted
+        ensures does { Acts S.Kid.tells act.now result self.old self.new }
+        ensures room { carries_nothing act.now ≡ true → result ≡ Acted.Done }
+        ensures counts { Counts self.old self.new }
+    {
+        match act {
+            Act::Start { k, c, launch, .. } => acted(self.keep(*k, *c, launch)),
+            Act::Feed { .. }
+            | Act::EndInput { .. }
+            | Act::WantChild { .. }
+            | Act::Kill { .. }
+            | Act::Release { .. } => self.act_on_child(act),
+            _ => self.act_on_client(act),
+        }
+    }
+
+    fn keep(&mut self, k: u64, c: u64, launch: &Launch) -> Result<(), NoMemory>
+        ensures ok { OnOk result (Asks k c launch.now self.old self.new) }
+        ensures err { OnErr result (self.new ≡ self.old) }
+    {
+        let launch = launch.copy()?;
+        self.starts.push(Asked { k, c, launch })?;
+        Ok(())
+    }
+
+    fn act_on_child(&mut self, act: &Act) -> Acted
+        ensures does { OnChildren (ChildrenDo S.Kid.tells act.now result) self.old self.new }
+        ensures room { carries_nothing act.now ≡ true → result ≡ Acted.Done }
+        ensures counts { Counts self.old self.new }
+    {
+        self.pause = pause_for(act, self.pause);
+        self.soon = soon_for(act, self.soon);
+        self.children.act(act)
+    }
+
+    #[tactic(auto, using(crate::proofs::Causes::set_counted))]
+    fn act_on_client(&mut self, act: &Act) -> Acted
+        ensures does { OnClients (SetActs act.now result) self.old self.new }
+        ensures room { carries_nothing act.now ≡ true → result ≡ Acted.Done }
+        ensures counts { Counts self.old self.new }
+    {
+        self.sockets.act(act)
+    }
+
+    /// Ends every child, spends all tickets and sends what is still unsent, for at most 150 ticks without a byte that
+    /// leaves for a client. It gives its part of the ledger back.
+    pub fn end(self) -> Share<L>
+        ensures one_part { result.parts ≡ 1 }
+        ensures none { result.amount ≡ 0 }
+    {
+        let NetOutside {
+            rt,
+            sockets,
+            children,
+            orders: _,
+            starts: _,
+            unstarted: _,
+            ending: _,
+            soon: _,
+            pause: _,
+            in_row: _,
+            limit: _,
+        } = self;
+        let share = children.end();
+        let mut sockets = sockets;
+        send_rest(&rt, &mut sockets);
+        share
+    }
+}
+
+// Shuts every client, and sends what is still unsent. A client that takes none of it for 150 ticks is let go.
+fn send_rest<P: Ports + Drop, R: Wait>(rt: &R, sockets: &mut SocketSet<P>)
+    ensures { All (λ row. row.1.outgoing ≡ []) sockets.new.rows }
+{
+    sockets.end_listening();
+    if !sockets.is_all_sent() {
+        shut_all(sockets);
+    }
+    for _ in rt.forever() {
+        if sockets.is_all_sent() {
+            return;
+        }
+        match sockets.poll() {
+            Polled::Told(_) => {}
+            Polled::Nothing => sockets.wait(MOST),
+            Polled::Again => sockets.wait(0),
+        }
+    }
+    unreachable!()
+}
+
+fn shut_all<P: Ports + Drop>(sockets: &mut SocketSet<P>) {
+    for c in 0..sockets.accepted() {
+        if sockets.is_open(c) {
+            let _ = sockets.act(&Act::Shut {
+                c,
+                why: Why::Stopped,
+            });
+        }
+    }
+}
+
+// A child whose output ended exits soon.
+fn pause_after(event: &Event, pause: u64) -> u64 {
+    match event {
+        Event::ChildEof { .. } | Event::ChildBroken { .. } => LEAST,
+        _ => pause,
+    }
+}
+
+fn soon_after(event: &Event, soon: u32) -> u32 {
+    match event {
+        Event::ChildEof { .. } | Event::ChildBroken { .. } => SOON,
+        _ => soon,
+    }
+}
+
+// .. and so does one that is killed.
+fn pause_for(act: &Act, pause: u64) -> u64 {
+    match act {
+        Act::Kill { .. } => LEAST,
+        _ => pause,
+    }
+}
+
+fn soon_for(act: &Act, soon: u32) -> u32 {
+    match act {
+        Act::Kill { .. } => SOON,
+        _ => soon,
+    }
+}
+
+fn acted(done: Result<(), NoMemory>) -> Acted
+    ensures { result ≡ (if is_ok done then Acted.Done else Acted.NoRoom) }
+{
+    match done {
+        Ok(()) => Acted::Done,
+        Err(NoMemory) => Acted::NoRoom,
+    }
+}
