@@ -1,0 +1,19 @@
+-- Orders as lines of text.
+use Rattle.std.specs.Prelude.{ℕ, Bool, ◌==◌, ◌||◌, List, [], ◌∷◌, ◌++◌, Option, Some, None, bytes_eq, if◌then◌else◌, codes}
+use Rattle.edge_loop.specs.declared.orders.Order.{Order}
+use Rattle.edge_loop.specs.declared.orders.Order.TheVariants.{Stop, Drain}
+
+-- a line without its LF says this word; one CR before the LF is dropped
+abbrev pub says : List ℕ → List ℕ → Bool
+says word line = bytes_eq line word || bytes_eq line (word ++ 13 ∷ [])
+
+abbrev pub order_of : List ℕ → Option Order
+order_of line = if says (codes "stop") line then Some Stop else if says (codes "drain") line then Some Drain else None
+
+-- what a byte ends, after the line so far
+abbrev pub heard_at : List ℕ → ℕ → Option Order
+heard_at line byte = if byte == 10 then order_of line else None
+
+-- the line so far after a byte
+abbrev pub line_after : List ℕ → ℕ → List ℕ
+line_after line byte = if byte == 10 then [] else line ++ byte ∷ []

@@ -1,0 +1,7 @@
+-- What real loops say of themselves.
+use Rattle.std.specs.Prelude.{ℕ, List, ◌++◌, codes}
+use Rattle.std.specs.Fmt.{decimal}
+
+-- the line that says where a server listens
+abbrev pub listening_text : List ℕ → ℕ → List ℕ
+listening_text address port = codes "cgihost: listening on " ++ address ++ codes ":" ++ decimal port

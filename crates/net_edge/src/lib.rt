@@ -1,0 +1,12 @@
+//! Real loops: what the outsides of several loops are made of, over sockets, programs of the system and standard input.
+#![tactic(auto)]
+
+mod line;
+mod listening;
+mod maker;
+mod stdin;
+
+pub use line::OrderLine;
+pub use listening::Listening;
+pub use maker::NetMaker;
+pub use stdin::{StdinOrders, Told};

@@ -1,0 +1,143 @@
+// Orders read on standard input by a pump of its own, and told to every loop.
+ghost use Rattle.std.specs.Prelude.{◌≡◌, IfOk};
+ghost use Rattle.edge_loop.specs.Orders.{OrdersTold, told_after};
+
+use super::OrderLine;
+use edge_loop::{Order, Orders};
+use host_base::NoMemory;
+use pipe_pump::Tap;
+use std::alloc::Global;
+use std::sync::Arc;
+use std::sync::atomic::{AtomicBool, Ordering};
+
+// How many bytes are read at a time, and how often at a look.
+const PIECE: usize = 64;
+
+const PIECES: u32 = 16;
+
+/// What was ordered, for all loops.
+#[derive(Drop)]
+pub struct Told {
+    stop: AtomicBool,
+    drain: AtomicBool,
+}
+
+impl Told {
+    /// Nothing was.
+    pub fn new() -> Self {
+        Told {
+            stop: AtomicBool::new(false),
+            drain: AtomicBool::new(false),
+        }
+    }
+
+    fn tell(&self, order: Order) {
+        match order {
+            Order::Stop => self.stop.store(true, Ordering::SeqCst),
+            Order::Drain => self.drain.store(true, Ordering::SeqCst),
+        }
+    }
+
+    fn is_stop(&self) -> bool {
+        self.stop.load(Ordering::SeqCst)
+    }
+
+    fn is_drain(&self) -> bool {
+        self.drain.load(Ordering::SeqCst)
+    }
+}
+
+/// What the one loop that reads standard input has of it.
+#[derive(Drop)]
+struct Reader {
+    tap: Tap,
+    line: OrderLine,
+}
+
+impl Reader {
+    // Tells what the bytes that have come order.
+    fn read(&mut self, told: &Told) {
+        let mut piece = [0u8; PIECE];
+        for _ in 0..PIECES {
+            let count = self.tap.take(&mut piece);
+            self.hear(&piece[..count], told);
+            if count < PIECE {
+                return;
+            }
+        }
+    }
+
+    fn hear(&mut self, bytes: &[u8], told: &Told) {
+        for byte in bytes {
+            if let Some(order) = self.line.hear(*byte) {
+                told.tell(order);
+            }
+        }
+    }
+}
+
+/// The orders of one loop. Each is given once.
+#[derive(Drop)]
+pub struct StdinOrders {
+    told: Arc<Told>,
+    reader: Option<Reader>,
+    // What this loop was told.
+    stop: bool,
+    drain: bool,
+}
+
+impl StdinOrders {
+    ghost use Rattle.std.specs.Prelude.{◌≡◌, false};
+
+    /// Those of a loop which is told what another loop reads.
+    pub fn of(told: Arc<Told>) -> Self
+        ensures none { (result.stop ≡ false) × (result.drain ≡ false) }
+    {
+        StdinOrders {
+            told,
+            reader: None,
+            stop: false,
+            drain: false,
+        }
+    }
+
+    /// Those of the loop that reads the bytes of a pump.
+    pub fn reading(told: Arc<Told>, tap: Tap) -> Self
+        ensures none { (result.stop ≡ false) × (result.drain ≡ false) }
+    {
+        StdinOrders {
+            told,
+            reader: Some(Reader {
+                tap,
+                line: OrderLine::new(),
+            }),
+            stop: false,
+            drain: false,
+        }
+    }
+
+    fn read(&mut self)
+        ensures { (self.new.stop ≡ self.old.stop) × (self.new.drain ≡ self.old.drain) }
+    {
+        if let Some(reader) = &mut self.reader {
+            reader.read(&self.told);
+        }
+    }
+}
+
+impl Orders for StdinOrders {
+    ghost told = { λ o. record { stop = o.stop; drain = o.drain } };
+
+    fn next_order(&mut self) -> Option<Order> {
+        self.read();
+        if !self.stop && self.told.is_stop() {
+            self.stop = true;
+            return Some(Order::Stop);
+        }
+        if !self.drain && self.told.is_drain() {
+            self.drain = true;
+            return Some(Order::Drain);
+        }
+        None
+    }
+}
