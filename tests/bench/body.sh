@@ -6,20 +6,10 @@
 # as at 16. The program that measures is built by `rt` in a folder of its own, over copies of the crates. It
 # reads how long it has run from /proc (Linux), which is exact to some milliseconds, and does each thing often.
 set -eu
-top=$(cd "$(dirname "$0")/../.." && pwd)
-command -v rt >/dev/null || { echo 'body.sh: skipped, there is no rt'; exit 0; }
 [ -r /proc/self/schedstat ] || { echo 'body.sh: skipped, there is no /proc/self/schedstat'; exit 0; }
-folder=$(mktemp -d)
-trap 'rm -rf "$folder"' EXIT
-crates='host_base head_lines head_reader script_map body_framing request_reader'
-mkdir -p "$folder/crates/body_speed/src"
-for crate in $crates; do
-    grep "^$crate:" "$top/crates.txt"
-    mkdir "$folder/crates/$crate"
-    (cd "$top/crates/$crate" && tar cf - --exclude=./out --exclude=./must-fail .) | (cd "$folder/crates/$crate" && tar xf -)
-done >"$folder/crates.txt"
-echo 'body_speed: host_base request_reader' >>"$folder/crates.txt"
-cat >"$folder/crates/body_speed/src/main.rt" <<'END_OF_PROGRAM'
+. "$(dirname "$0")/crates.sh"
+copy_crates body_speed 'host_base request_reader'
+cat >"$speed/src/main.rt" <<'END_OF_PROGRAM'
 // Bodies of requests by length and in chunks, in large and in small pieces, beside copies of them.
 #![tactic(auto)]
 
@@ -204,7 +194,7 @@ fn main(rt: HostRuntime) -> io::Result<()> {
     Ok(())
 }
 END_OF_PROGRAM
-(cd "$folder/crates/body_speed" && rt run) >"$folder/times" 2>"$folder/log" || { tail -n 30 "$folder/log"; exit 1; }
+(cd "$speed" && rt run) >"$folder/times" 2>"$folder/log" || { tail -n 30 "$folder/log"; exit 1; }
 # The least of three counts.
 awk '
     $5 != $2 * 1048576 && ($1 != "copy" || $5 < $2 * 1048576) { print "body.sh: " $0; bad = 1; exit 1 }

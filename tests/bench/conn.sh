@@ -6,28 +6,9 @@
 # program that measures is built by `rt` in a folder of its own, over copies of the crates.
 set -eu
 export LC_ALL=C
-top=$(cd "$(dirname "$0")/../.." && pwd)
-command -v rt >/dev/null || { echo 'conn.sh: skipped, there is no rt'; exit 0; }
-folder=$(mktemp -d)
-trap 'rm -rf "$folder"' EXIT
-
-# The crates that it stands on, with those below them.
-crates='conn_core site_file'
-for _ in 1 2 3 4 5 6 7 8; do
-    for crate in $crates; do
-        crates="$crates $(sed -n "s/^$crate:\( .*\)\{0,1\}$/\1/p" "$top/crates.txt")"
-    done
-    crates=$(printf '%s\n' $crates | sort -u)
-done
-speed=$folder/crates/conn_speed
-mkdir -p "$speed/src" "$speed/proofs/drive"
-for crate in $crates; do
-    [ -d "$top/crates/$crate" ] || continue
-    grep "^$crate:" "$top/crates.txt"
-    mkdir "$folder/crates/$crate"
-    (cd "$top/crates/$crate" && tar cf - --exclude=./out --exclude=./must-fail .) | (cd "$folder/crates/$crate" && tar xf -)
-done >"$folder/crates.txt"
-echo 'conn_speed: host_base host_trace reply_writer site_file conn_core' >>"$folder/crates.txt"
+. "$(dirname "$0")/crates.sh"
+copy_crates conn_speed 'host_base host_trace reply_writer site_file conn_core'
+mkdir -p "$speed/proofs/drive"
 cat >"$speed/src/main.rt" <<'END'
 //! Events of one connection, that are handed to it, copied, or dropped.
 #![tactic(auto)]

@@ -6,15 +6,9 @@
 # what a link does itself, which is to hold what came, to hand on the text and to begin a new buffer for what
 # it sends.
 set -eu
-root=$(cd "$(dirname "$0")/../.." && pwd)
-command -v rt >/dev/null || { echo 'link.sh: skipped, there is no rt'; exit 0; }
-folder=$(mktemp -d)
-trap 'rm -rf "$folder"' EXIT
-mkdir -p "$folder/crates/link_bench/src"
-cp -r "$root/crates/host_base" "$root/crates/ws_link" "$folder/crates/"
-grep -E '^(host_base|ws_link):' "$root/crates.txt" >"$folder/crates.txt"
-echo 'link_bench: host_base ws_link tungstenite' >>"$folder/crates.txt"
-cat >"$folder/crates/link_bench/src/main.rt" <<'END'
+. "$(dirname "$0")/crates.sh"
+copy_crates link_speed 'host_base ws_link tungstenite'
+cat >"$speed/src/main.rt" <<'END'
 // Texts of 32 bytes both ways through a link, through tungstenite alone, copied, and masked.
 #![tactic(auto)]
 
@@ -173,7 +167,7 @@ fn main(rt: HostRuntime) -> io::Result<()> {
     Ok(())
 }
 END
-cd "$folder/crates/link_bench"
+cd "$speed"
 rt run >"$folder/times" 2>"$folder/log" || { tail -n 20 "$folder/log"; exit 1; }
 
 # Each is run five times, and the least counts.

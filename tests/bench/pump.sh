@@ -3,20 +3,9 @@
 # run. The aim is 0.8 times what cat moves. The program that measures is built by `rt` in a folder of its own, over
 # copies of the crates.
 set -eu
-top=$(cd "$(dirname "$0")/../.." && pwd)
-command -v rt >/dev/null || { echo 'pump.sh: skipped, there is no rt'; exit 0; }
-folder=$(mktemp -d)
-trap 'rm -rf "$folder"' EXIT
-crates='host_base host_trace pipe_pump child_edge pump_pool std_spawner'
-mkdir -p "$folder/crates/pump_speed/src"
-cp "$top/HANDLES" "$folder"
-for crate in $crates; do
-    grep "^$crate[: ]" "$top/crates.txt"
-    mkdir "$folder/crates/$crate"
-    (cd "$top/crates/$crate" && tar cf - --exclude=./out --exclude=./must-fail .) | (cd "$folder/crates/$crate" && tar xf -)
-done >"$folder/crates.txt"
-echo "pump_speed: host_base pipe_pump pump_pool std_spawner crossbeam_utils" >>"$folder/crates.txt"
-cat >"$folder/crates/pump_speed/src/main.rt" <<'END_OF_PROGRAM'
+. "$(dirname "$0")/crates.sh"
+copy_crates pump_speed 'host_base pipe_pump pump_pool std_spawner crossbeam_utils'
+cat >"$speed/src/main.rt" <<'END_OF_PROGRAM'
 // Reads standard input to its end by a pump in a thread, through a ring, and prints how many bytes came.
 #![tactic(auto)]
 
@@ -113,9 +102,11 @@ fn main(rt: HostRuntime) -> io::Result<()> {
     }
 }
 END_OF_PROGRAM
-(cd "$folder/crates/pump_speed" && rt run </dev/null) >"$folder/out" 2>"$folder/log" || { tail -n 30 "$folder/log"; exit 1; }
-pump=$folder/crates/pump_speed/out/pump_speed
+(cd "$speed" && rt run </dev/null) >"$folder/out" 2>"$folder/log" || { tail -n 30 "$folder/log"; exit 1; }
+pump=$speed/out/pump_speed
 size=2147483648
+# What is measured goes before all other work from here on, where the system allows that.
+chrt -f -p 10 $$ >/dev/null 2>&1 || true
 
 now() {
     date +%s%N

@@ -3,19 +3,9 @@
 # same pieces in the same run. The aim is 0.5 times the copy's speed or more. The program that measures is built
 # by `rt` in a folder of its own, over copies of the crates.
 set -eu
-top=$(cd "$(dirname "$0")/../.." && pwd)
-command -v rt >/dev/null || { echo 'stream.sh: skipped, there is no rt'; exit 0; }
-folder=$(mktemp -d)
-trap 'rm -rf "$folder"' EXIT
-crates='host_base head_lines head_reader cgi_header reply_writer reply_kinds reply_stream'
-mkdir -p "$folder/crates/stream_speed/src"
-for crate in $crates; do
-    grep "^$crate:" "$top/crates.txt" || echo "$crate:"
-    mkdir "$folder/crates/$crate"
-    (cd "$top/crates/$crate" && tar cf - --exclude=./out --exclude=./must-fail .) | (cd "$folder/crates/$crate" && tar xf -)
-done >"$folder/crates.txt"
-echo 'stream_speed: host_base reply_stream' >>"$folder/crates.txt"
-cat >"$folder/crates/stream_speed/src/main.rt" <<'END'
+. "$(dirname "$0")/crates.sh"
+copy_crates stream_speed 'host_base reply_stream'
+cat >"$speed/src/main.rt" <<'END'
 #![tactic(auto)]
 
 use host_base::{Bytes, NoMemory, ScriptKind, Version};
@@ -94,7 +84,7 @@ fn main(rt: HostRuntime) -> io::Result<()> {
     Ok(())
 }
 END
-(cd "$folder/crates/stream_speed" && rt run) >"$folder/out" 2>"$folder/log" || { tail -n 30 "$folder/log"; exit 1; }
+(cd "$speed" && rt run) >"$folder/out" 2>"$folder/log" || { tail -n 30 "$folder/log"; exit 1; }
 # The first turn fills the caches, and of the others the least counts. Each piece is a chunk: its size, two line
 # ends and itself; the head and the end mark add 95 bytes.
 awk '
