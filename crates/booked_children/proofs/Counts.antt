@@ -3,9 +3,10 @@ use Rattle.std.proofs.Common.{◌≡◌, ◌∙◌, ◌⊎◌, inl, inr, ◌+◌
 use Rattle.std.proofs.lemmas.List.Sums.{sum_by-append}
 use Rattle.host_trace.specs.declared.items.Event.{Event}
 use Rattle.host_trace.specs.declared.items.Event.TheVariants.{Accepted, ClientBytes, ClientEof, ClientGone, Wrote, Started, StartFailed, StartFull, ChildBytes, ChildEof, ChildBroken, Took, InputGone, Exited, WsText, WsBinary, WsClosed, WsBad, NoRoom, Tick, Stop}
+use Rattle.host_base.specs.declared.launch.Launch.{Launch}
 use Rattle.child_edge.specs.Kids.{KidTells}
 use Rattle.child_edge.specs.declared.row.Row.{Row}
-use Rattle.child_edge.specs.Rows.{Marks, Says, Rests, IsQuiet, Stays, Each, OneSays, At, OnKept, Feeds, Changes, Releases, StartsRow, want_marks, end_marks, marks, kept, is_kept, runs, place}
+use Rattle.child_edge.specs.Rows.{Marks, Says, Rests, IsQuiet, Stays, Each, OneSays, At, OnKept, Feeds, Changes, Kills, Releases, StartsRow, want_marks, end_marks, marks, kept, is_kept, runs, place}
 use Rattle.booked_children.specs.Booked.{exits_of, running_of}
 
 -- 1 for a child that runs and whose number passes
@@ -147,19 +148,19 @@ module _ {K : Type 0} where
   runs_ended t tells k rows now h =
       at_runs t (Changes tells end_marks) (λ r s f. record { number = f.stays.number; exited = ap (λ m. m.exited) f.marks }) (place k rows) rows now h
 
-  pub runs_killed : (t : ℕ → Bool) (tells : K → KidTells) (k : ℕ) (rows now : List (Row K)) → OnKept (Changes tells (λ m. m)) k rows now
+  pub runs_killed : (t : ℕ → Bool) (tells : K → KidTells) (k : ℕ) (rows now : List (Row K)) → OnKept (Kills tells) k rows now
       → running_of t now ≡ running_of t rows
   runs_killed t tells k rows now h =
-      at_runs t (Changes tells (λ m. m)) (λ r s f. record { number = f.stays.number; exited = ap (λ m. m.exited) f.marks }) (place k rows) rows now h
+      at_runs t (Kills tells) (λ r s f. record { number = f.stays.number; exited = ap (λ m. m.exited) f.marks }) (place k rows) rows now h
 
   pub runs_released : (t : ℕ → Bool) (tells : K → KidTells) (k : ℕ) (rows now : List (Row K)) → OnKept (Releases tells) k rows now
       → running_of t now ≡ running_of t rows
   runs_released t tells k rows now h =
       at_runs t (Releases tells) (λ r s f. record { number = f.number; exited = ap (λ m. m.exited) f.marks }) (place k rows) rows now h
 
-  pub runs_more : (t : ℕ → Bool) (tells : K → KidTells) (k c : ℕ) (rows now : List (Row K)) → StartsRow tells k c (kept rows) now
+  pub runs_more : (t : ℕ → Bool) (tells : K → KidTells) (k c : ℕ) (launch : Launch) (rows now : List (Row K)) → StartsRow tells k c launch (kept rows) now
       → running_of t now ≡ running_of t rows + cond (t k) 1 0
-  runs_more t tells k c rows now h =
+  runs_more t tells k c launch rows now h =
       let live_one : live h.row.exited (t h.row.k) ≡ cond (t k) 1 0 = ap (λ m. live m.exited (t h.row.k)) h.is_new.marks ∙ ap (λ j. cond (t j) 1 0) h.is_new.number in
       let one : running_of t (h.row ∷ []) ≡ live h.row.exited (t h.row.k) + running_of {K = K} t [] = count_cons t h.row [] in
       let all : running_of t (kept rows ++ h.row ∷ []) ≡ running_of t (kept rows) + running_of t (h.row ∷ []) = sum_by-append (λ x. cond (runs x && t x.k) 1 0) (kept rows) (h.row ∷ []) in

@@ -4,9 +4,10 @@ use Rattle.std.proofs.lemmas.Bool.{eq-eqb}
 use Rattle.std.proofs.lemmas.List.Sums.{sum_by-append}
 use Rattle.host_trace.specs.declared.items.Event.{Event}
 use Rattle.host_trace.specs.declared.items.Event.TheVariants.{Accepted, ClientBytes, ClientEof, ClientGone, Wrote, Started, StartFailed, StartFull, ChildBytes, ChildEof, ChildBroken, Took, InputGone, Exited, WsText, WsBinary, WsClosed, WsBad, NoRoom, Tick, Stop}
+use Rattle.host_base.specs.declared.launch.Launch.{Launch}
 use Rattle.child_edge.specs.Kids.{KidTells}
 use Rattle.child_edge.specs.declared.row.Row.{Row}
-use Rattle.child_edge.specs.Rows.{IsQuiet, Each, OneSays, OnKept, Feeds, Changes, Releases, StartsRow, want_marks, end_marks, kept, runs}
+use Rattle.child_edge.specs.Rows.{IsQuiet, Each, OneSays, OnKept, Feeds, Changes, Kills, Releases, StartsRow, want_marks, end_marks, kept, runs}
 use Rattle.booked_children.specs.declared.tickets.Held.{Held}
 use Rattle.booked_children.specs.Booked.{HaveTickets, HasTicket, Spends, tickets_of, running_of, exits_of}
 use Rattle.booked_children.proofs.Counts.{runs_kept, runs_told, runs_quiet, runs_fed, runs_wanted, runs_ended, runs_killed, runs_released, runs_more}
@@ -57,15 +58,15 @@ module _ {K : Type 0} where
             ap (λ x. tickets_of t x) f ∙ (h.each t ∙ (sym (runs_kept t rows) ∙ sym (ap (λ x. running_of t x) e)));
       }
 
-  pub have_more : (tells : K → KidTells) (k c : ℕ) (x : Held) (ts mid ts' : List Held) (rows now : List (Row K)) → HaveTickets ts rows
-      → StartsRow tells k c (kept rows) now → x.k ≡ k → mid ≡ ts → ts' ≡ mid ++ x ∷ [] → HaveTickets ts' now
-  have_more tells k c x ts mid ts' rows now h s e m f =
+  pub have_more : (tells : K → KidTells) (k c : ℕ) (launch : Launch) (x : Held) (ts mid ts' : List Held) (rows now : List (Row K)) → HaveTickets ts rows
+      → StartsRow tells k c launch (kept rows) now → x.k ≡ k → mid ≡ ts → ts' ≡ mid ++ x ∷ [] → HaveTickets ts' now
+  have_more tells k c launch x ts mid ts' rows now h s e m f =
       record {
         each = λ t.
             let same : one_if (t x.k) ≡ one_if (t k) = ap (λ j. one_if (t j)) e in
             let all : tickets_of t (mid ++ x ∷ []) ≡ tickets_of t mid + tickets_of t (x ∷ []) = sum_by-append (λ (y : Held). cond (t y.k) 1 0) mid (x ∷ []) in
             let had : tickets_of t mid ≡ running_of t rows = ap (λ y. tickets_of t y) m ∙ h.each t in
-            let more : running_of t now ≡ running_of t rows + one_if (t k) = runs_more t tells k c rows now s in
+            let more : running_of t now ≡ running_of t rows + one_if (t k) = runs_more t tells k c launch rows now s in
             ap (λ y. tickets_of t y) f ∙ omega (arith, same, all, had, more);
       }
 
@@ -140,7 +141,7 @@ module _ {K : Type 0} where
       }
 
   pub have_killed : (tells : K → KidTells) (k : ℕ) (ts : List Held) (rows now : List (Row K)) → HaveTickets ts rows
-      → OnKept (Changes tells (λ m. m)) k rows now → HaveTickets ts now
+      → OnKept (Kills tells) k rows now → HaveTickets ts now
   have_killed tells k ts rows now h s =
       record {
         each = λ t.

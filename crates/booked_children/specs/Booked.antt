@@ -10,7 +10,8 @@ use Rattle.child_edge.specs.declared.kid.SpawnFault.{SpawnFault}
 use Rattle.child_edge.specs.declared.kid.SpawnFault.TheVariants.{Failed, NoMemory}
 use Rattle.child_edge.specs.Kids.{KidTells}
 use Rattle.child_edge.specs.declared.row.Row.{Row}
-use Rattle.child_edge.specs.Rows.{OnKept, Feeds, Changes, Releases, StartsRow, want_marks, end_marks, kept, runs}
+use Rattle.host_base.specs.declared.launch.Launch.{Launch}
+use Rattle.child_edge.specs.Rows.{OnKept, Feeds, Changes, Kills, Releases, StartsRow, want_marks, end_marks, kept, runs}
 use Rattle.booked_children.specs.declared.tickets.Held.{Held}
 
 -- how many children whose numbers pass a test an event says to have exited
@@ -54,20 +55,20 @@ module _ {K : Type 0} where
   abbrev pub StartsNone : List (Row K) → List (Row K) → Type 0
   StartsNone rows now = (now ≡ rows) ⊎ (now ≡ kept rows)
 
-  -- What a start of child k of connection c is answered with, by what it did to the children, the count of faults and
+  -- What a start of child k of connection c by a launch is answered with, by what it did to the children, the count of faults and
   -- the count of full books. NoRoom is told where there was no memory.
-  abbrev pub Begins : (K → KidTells) → ℕ → ℕ → Event → List (Row K) → List (Row K) → Type 0
-  Begins tells k c (Started j) rows now = (j ≡ k) × StartsRow tells k c (kept rows) now
-  Begins tells k c (StartFailed j) rows now = (j ≡ k) × StartsNone rows now
-  Begins tells k c (StartFull j seen) rows now = (j ≡ k) × (now ≡ rows)
-  Begins tells k c (NoRoom d) rows now = (d ≡ c) × StartsNone rows now
-  Begins tells k c _ rows now = ⊥
+  abbrev pub Begins : (K → KidTells) → ℕ → ℕ → Launch → Event → List (Row K) → List (Row K) → Type 0
+  Begins tells k c launch (Started j) rows now = (j ≡ k) × StartsRow tells k c launch (kept rows) now
+  Begins tells k c launch (StartFailed j) rows now = (j ≡ k) × StartsNone rows now
+  Begins tells k c launch (StartFull j seen) rows now = (j ≡ k) × (now ≡ rows)
+  Begins tells k c launch (NoRoom d) rows now = (d ≡ c) × StartsNone rows now
+  Begins tells k c launch _ rows now = ⊥
 
   -- an act on a child changes that one, where it is kept; others change none
   abbrev pub ChildrenDo : (K → KidTells) → Act → Acted → List (Row K) → List (Row K) → Type 0
   ChildrenDo tells (Feed k bytes) acted rows now = OnKept (Feeds tells (added bytes acted)) k rows now
   ChildrenDo tells (EndInput k) acted rows now = OnKept (Changes tells end_marks) k rows now
   ChildrenDo tells (WantChild k) acted rows now = OnKept (Changes tells want_marks) k rows now
-  ChildrenDo tells (Kill k) acted rows now = OnKept (Changes tells (λ m. m)) k rows now
+  ChildrenDo tells (Kill k) acted rows now = OnKept (Kills tells) k rows now
   ChildrenDo tells (Release k) acted rows now = OnKept (Releases tells) k rows now
   ChildrenDo tells _ acted rows now = now ≡ rows

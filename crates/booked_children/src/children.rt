@@ -91,7 +91,7 @@ impl<S: Spawner + Drop, L: Ledger, R: Wait + Drop> BookedChildren<S, L, R> {
     /// connection, and then `fail` is to tell that the child was not started.
     #[tactic(auto, using(crate::proofs::Matches::have_same, crate::proofs::Matches::have_kept, crate::proofs::Matches::have_more, crate::proofs::Sounds::each_all, crate::proofs::Sounds::all_each))]
     pub fn begin(&mut self, k: u64, c: u64, launch: &Launch) -> Event
-        ensures begins { Begins S.Kid.tells k c result self.old.set.rows.items self.new.set.rows.items }
+        ensures begins { Begins S.Kid.tells k c launch.now result self.old.set.rows.items self.new.set.rows.items }
         ensures faults { self.old.faults ≤ self.new.faults }
         ensures full_books { self.old.full ≤ self.new.full }
         ensures failure { told.is_failure result ≡ true → Rose self.old.faults self.new.faults }

@@ -12,7 +12,10 @@ use Rattle.child_edge.specs.Rows.{IsSound, Stays, SameMarks, Says, IsDue, marks_
 same_two : (a b d : KidTells) → SameKid a b → SameKid b d → SameKid a d
 same_two a b d g h =
     record {
+      launch = h.launch ∙ g.launch;
       ring = h.ring ∙ g.ring;
+      feed = h.feed ∙ g.feed;
+      kills = omega (arith, g.kills, h.kills);
       faults = omega (arith, g.faults, h.faults);
       out_looks = omega (arith, g.out_looks, h.out_looks);
       in_looks = omega (arith, g.in_looks, h.in_looks);
@@ -21,7 +24,7 @@ same_two a b d g h =
 
 pub same_self : (a : KidTells) → SameKid a a
 same_self a =
-    record { ring = refl; faults = omega arith; out_looks = omega arith; in_looks = omega arith; reap_looks = omega arith }
+    record { launch = refl; ring = refl; feed = refl; kills = omega arith; faults = omega arith; out_looks = omega arith; in_looks = omega arith; reap_looks = omega arith }
 
 module _ {K : Type 0} where
   pub stays_two : (tells : K → KidTells) (ys : List ℕ) (r m s : Row K) → Stays tells [] r m → Stays tells ys m s → Stays tells ys r s
@@ -89,6 +92,7 @@ nothing_two tells r m s g h =
         stays = stays_two tells [] r m s g.stays h.no_output.stays;
         marks = marks_two r m s g.marks h.no_output.marks;
         kid = h.no_output.kid ∙ g.kid;
+        fed_on = h.no_output.fed_on;
         no_bytes = h.no_output.no_bytes;
         no_end = h.no_output.no_end;
       };

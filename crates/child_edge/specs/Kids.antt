@@ -1,19 +1,26 @@
 -- What a kid tells of itself, and what its calls do to that.
 use Rattle.std.specs.Prelude.{◌≡◌, ℕ, ◌≤◌, Bool, true, false, Option, Some, None}
 use Rattle.host_base.specs.Outsides.{Rose}
+use Rattle.host_base.specs.declared.launch.Launch.{Launch}
 use Rattle.pipe_pump.specs.declared.ends.PumpEnd.{PumpEnd}
 use Rattle.pipe_pump.specs.declared.ends.PumpEnd.TheVariants.{AtEnd, Broken, Spent, Abandoned}
 use Rattle.pipe_pump.specs.declared.from_pipe.PumpRing.{PumpRing}
+use Rattle.pipe_pump.specs.declared.feed_ring.FeedRing.{FeedRing}
 use Rattle.child_edge.specs.declared.kid.Reap.{Reap}
 use Rattle.child_edge.specs.declared.kid.Reap.TheVariants.{Exited, Running, Failed}
 
 pub record KidTells : Type 0 where
-  -- the ring that its output pump was given
+  -- the launch that it was started by
+  pub launch : Launch
+  -- the rings that the pumps of its output and its input were given
   pub ring : PumpRing
+  pub feed : FeedRing
   -- how each pump ended, once that was given
   pub out_end : Option PumpEnd
   pub in_end : Option PumpEnd
   pub reaped : Bool
+  -- how often it was killed
+  pub kills : ℕ
   pub faults : ℕ
   -- how often each was asked
   pub out_looks : ℕ
@@ -33,14 +40,19 @@ pub record IsOpenKid (a : KidTells) : Type 0 where
   pub in_open : a.in_end ≡ None
   pub running : a.reaped ≡ false
 
--- .. and it was started on this ring
-pub record IsNewKid (ring : PumpRing) (a : KidTells) : Type 0 where
+-- .. and it was started by this launch and on these rings
+pub record IsNewKid (launch : Launch) (ring : PumpRing) (feed : FeedRing) (a : KidTells) : Type 0 where
+  pub of_launch : a.launch ≡ launch
   pub of_ring : a.ring ≡ ring
+  pub of_feed : a.feed ≡ feed
   pub open_kid : IsOpenKid a
 
 -- what no call changes, and what never falls
 pub record SameKid (a b : KidTells) : Type 0 where
+  pub launch : b.launch ≡ a.launch
   pub ring : b.ring ≡ a.ring
+  pub feed : b.feed ≡ a.feed
+  pub kills : a.kills ≤ b.kills
   pub faults : a.faults ≤ b.faults
   pub out_looks : a.out_looks ≤ b.out_looks
   pub in_looks : a.in_looks ≤ b.in_looks

@@ -1,13 +1,14 @@
 -- What the set holds of each child, and what an event says of it.
-use Rattle.std.specs.Prelude.{◌≡◌, ℕ, zero, suc, ◌≤◌, ◌<◌, ◌+◌, ◌==◌, ◌⊎◌, filter, ◌&&◌, Bool, true, false, not, List, [], ◌∷◌, ◌++◌, length, drop, Option, Some, None, is_some, ⊤}
+use Rattle.std.specs.Prelude.{◌≡◌, ℕ, zero, suc, ◌≤◌, ◌<◌, ◌+◌, ◌-◌, ◌^◌, ◌==◌, ◌⊎◌, filter, ◌&&◌, Bool, true, false, not, List, [], ◌∷◌, ◌++◌, length, drop, Option, Some, None, is_some, ⊤}
 use Rattle.std.specs.List.{position_or_len}
 use Rattle.host_base.specs.Outsides.{Rose}
+use Rattle.host_base.specs.declared.launch.Launch.{Launch}
 use Rattle.host_trace.specs.declared.items.Event.{Event}
 use Rattle.host_trace.specs.declared.items.Event.TheVariants.{ChildBytes, ChildEof, ChildBroken, Took, InputGone, Exited, NoRoom}
 use Rattle.pipe_pump.specs.declared.ends.PumpEnd.{PumpEnd}
 use Rattle.pipe_pump.specs.declared.ends.PumpEnd.TheVariants.{AtEnd}
 use Rattle.pipe_pump.specs.declared.tap.Tap.{Tap}
-use Rattle.pipe_pump.specs.Rings.{IsRingOf, handed_up, standing, is_finished, fed, is_open, places, known_places}
+use Rattle.pipe_pump.specs.Rings.{IsRingOf, IsFeedOf, handed_up, standing, is_finished, fed, is_open, places, known_places}
 use Rattle.child_edge.specs.Kids.{KidTells, SameKid, is_failed}
 use Rattle.child_edge.specs.declared.row.Row.{Row}
 
@@ -28,6 +29,8 @@ pub record Marks : Type 0 where
   pub input_ended : Bool
   pub output_ended : Bool
   pub exited : Bool
+  -- its input is to be closed once all that was fed has left
+  pub closing : Bool
   pub taken : ℕ
 
 -- the same after an event of the child
@@ -47,7 +50,7 @@ abbrev pub want_marks : Marks → Marks
 want_marks m = record m { wanted = not m.output_ended }
 
 abbrev pub end_marks : Marks → Marks
-end_marks m = record m { input_ended = true }
+end_marks m = record m { input_ended = true; closing = true }
 
 abbrev pub release_marks : Marks → Marks
 release_marks m = record m { wanted = false; output_ended = true }
@@ -68,7 +71,8 @@ IsEmptied (Some tap) = (is_finished tap ≡ true) × (standing tap ≡ [])
 
 module _ {K : Type 0} where
   abbrev pub marks : Row K → Marks
-  marks r = record { wanted = r.wanted; input_ended = r.input_ended; output_ended = r.output_ended; exited = r.exited; taken = r.told }
+  marks r =
+      record { wanted = r.wanted; input_ended = r.input_ended; output_ended = r.output_ended; exited = r.exited; closing = r.closing; taken = r.told }
 
   -- the bytes that the child's feeder was given, and those still held for it
   abbrev pub fed_all : Row K → List ℕ
@@ -94,7 +98,13 @@ module _ {K : Type 0} where
     pub pair : (tap : Tap) → r.tap ≡ Some tap → IsRingOf (tells r.kid).ring tap
     pub finished : (tap : Tap) → r.tap ≡ Some tap → is_finished tap ≡ is_some r.out_end
     pub gone : r.tap ≡ None → (r.wanted ≡ false) × (r.output_ended ≡ true)
+    -- .. and its feeder too
+    pub feeds : IsFeedOf (tells r.kid).feed r.feeder
     pub held : r.moved ≤ length r.backlog.items
+    -- the ring has places for no more than was put and not told to be taken, but for those known to be free
+    pub behind : is_open r.feeder ≡ true → r.told + places r.feeder ≤ r.put + known_places r.feeder
+    -- where it is to be closed and nothing is held, its feed was ended
+    pub closed : r.closing ≡ true → r.moved ≡ length r.backlog.items → is_open r.feeder ≡ false
     pub told_taken : r.told ≤ r.put
     pub put_fed : r.put ≤ length (fed r.feeder)
 
@@ -111,11 +121,25 @@ module _ {K : Type 0} where
   abbrev pub SameMarks : Row K → Row K → Type 0
   SameMarks r s = marks s ≡ marks r
 
+  -- Bytes are held only where as many as the ring has places were put and not told to be taken: as far as a u64 counts
+  -- them.
+  abbrev pub IsPushed : Row K → Type 0
+  IsPushed r = is_open r.feeder ≡ true → r.moved < length r.backlog.items → r.put + (length r.backlog.items - r.moved) < 2 ^ 64
+      → r.told + places r.feeder ≤ r.put
+
+  -- .. and what left the ring was told, as far as this end knows; all, once the input was closed and its pump came to
+  -- the end
+  pub record IsFedOn (tells : K → KidTells) (r : Row K) : Type 0 where
+    pub pushed : IsPushed r
+    pub told : is_open r.feeder ≡ true → r.put + known_places r.feeder ≤ r.told + places r.feeder
+    pub all_told : is_open r.feeder ≡ false → (tells r.kid).in_end ≡ Some AtEnd → r.put ≤ r.told
+
   -- nothing of this child is to be told, and of all that is open it was asked
   pub record IsQuiet (tells : K → KidTells) (r s : Row K) : Type 0 where
     pub stays : Stays tells [] r s
     pub marks : SameMarks r s
     pub asked : IsAsked (tells r.kid) (tells s.kid)
+    pub fed_on : IsFedOn tells s
     pub no_bytes : s.wanted ≡ true → standing_in s.tap ≡ []
     pub no_end : s.wanted ≡ true → (tells s.kid).out_end ≡ None
     pub no_gone : has_gone s ≡ false
@@ -132,6 +156,7 @@ module _ {K : Type 0} where
     pub stays : Stays tells [] r s
     pub marks : SameMarks r s
     pub kid : s.kid ≡ r.kid
+    pub fed_on : IsFedOn tells s
     pub no_bytes : s.wanted ≡ true → standing_in s.tap ≡ []
     pub no_end : s.wanted ≡ true → (tells s.kid).out_end ≡ None
 
@@ -225,6 +250,12 @@ module _ {K : Type 0} where
     pub stays : Stays tells [] r s
     pub marks : marks s ≡ change (marks r)
 
+  -- its kid was killed
+  pub record Kills (tells : K → KidTells) (r s : Row K) : Type 0 where
+    pub stays : Stays tells [] r s
+    pub marks : SameMarks r s
+    pub killed : Rose (tells r.kid).kills (tells s.kid).kills
+
   -- its output was given up: the tap is gone
   pub record Releases (tells : K → KidTells) (r s : Row K) : Type 0 where
     pub number : s.k ≡ r.k
@@ -235,13 +266,14 @@ module _ {K : Type 0} where
     pub marks : marks s ≡ release_marks (marks r)
     pub sound : IsSound tells s
 
-  -- a new child, of which nothing was heard
-  pub record IsNewRow (tells : K → KidTells) (k c : ℕ) (r : Row K) : Type 0 where
+  -- a new child of this launch, of which nothing was heard
+  pub record IsNewRow (tells : K → KidTells) (k c : ℕ) (launch : Launch) (r : Row K) : Type 0 where
+    pub of_launch : (tells r.kid).launch ≡ launch
     pub number : r.k ≡ k
     pub connection : r.c ≡ c
     pub feed : fed_all r ≡ []
     pub taken : handed_by r.tap ≡ []
-    pub marks : marks r ≡ record { wanted = false; input_ended = false; output_ended = false; exited = false; taken = 0 }
+    pub marks : marks r ≡ record { wanted = false; input_ended = false; output_ended = false; exited = false; closing = false; taken = 0 }
     pub sound : IsSound tells r
 
   abbrev pub is_kept : Row K → Bool
@@ -254,8 +286,8 @@ module _ {K : Type 0} where
   abbrev pub runs : Row K → Bool
   runs r = not r.exited
 
-  -- a new child was added behind the others
-  pub record StartsRow (tells : K → KidTells) (k c : ℕ) (rows now : List (Row K)) : Type 0 where
+  -- a new child of this launch was added behind the others
+  pub record StartsRow (tells : K → KidTells) (k c : ℕ) (launch : Launch) (rows now : List (Row K)) : Type 0 where
     pub row : Row K
-    pub is_new : IsNewRow tells k c row
+    pub is_new : IsNewRow tells k c launch row
     pub added : now ≡ rows ++ row ∷ []

@@ -13,6 +13,3 @@ pub use kid::{Kid, Reap, SpawnFault, Spawner};
 pub use row::Row;
 pub use set::ChildSet;
 pub use starts::StartCounts;
-
-#[cfg(test)]
-mod tests;

@@ -1,8 +1,8 @@
 // One child: its kid, and our ends of its rings.
 ghost use Rattle.std.specs.Prelude.{◌≡◌, ◌++◌, ◌<◌, ◌≤◌, ◌+◌, drop, [], true, false, Some, None, length, IfOk, IfSome, IsNone, OnErr, OnOk, is_ok, if◌then◌else◌};
-ghost use Rattle.child_edge.specs.Rows.{IsSound, IsQuiet, Says, Stays, IsAsked, SameMarks, Changes, Releases, want_marks, end_marks, fed_all, has_gone, has_exit, HasNothing, HasNoOutput, Feeds, is_settled, IsNewRow, Looked, marks};
+ghost use Rattle.child_edge.specs.Rows.{IsSound, IsQuiet, Says, Stays, IsAsked, SameMarks, Changes, Kills, Releases, want_marks, end_marks, IsPushed, IsFedOn, fed_all, has_gone, has_exit, HasNothing, HasNoOutput, Feeds, is_settled, IsNewRow, Looked, marks};
 ghost use Rattle.child_edge.specs.Kids.{IsOpenKid};
-ghost use Rattle.pipe_pump.specs.Rings.{handed_up, standing, IsRingOf, SameTap, is_finished, is_open, fed, places, known_places, IsOtherEnd};
+ghost use Rattle.pipe_pump.specs.Rings.{handed_up, standing, IsRingOf, IsFeedOf, SameTap, SameFeeder, is_finished, is_open, fed, places, known_places, IsOtherEnd};
 ghost use Rattle.pipe_pump.specs.declared.ends.PumpEnd.TheVariants.{AtEnd};
 ghost use Rattle.host_base.specs.Outsides.{Rose};
 
@@ -63,6 +63,7 @@ impl<K: Kid> Row<K> {
         ensures stays { Stays K.tells [] self.old self.new }
         ensures asked { IsAsked (K.tells self.old.kid) (K.tells self.new.kid) }
         ensures state { SameMarks self.old self.new }
+        ensures pushed { IsPushed self.new }
     {
         self.ask_kid();
         self.flush();
@@ -170,14 +171,19 @@ impl<K: Kid> Row<K> {
     // Moves what is held to the feeder, as far as there is room, and ends the feed where that is due.
     fn flush(&mut self)
         requires { IsSound K.tells self.old }
-        ensures { Feeds K.tells [] self.old self.new }
+        ensures feeds { Feeds K.tells [] self.old self.new }
+        ensures pushed { IsPushed self.new }
     {
         if !self.feeder.is_open() {
             return;
         }
+        let held = self.backlog.len() - self.moved;
+        if held as u64 > u64::MAX - self.put {
+            return;
+        }
         let put = feed_from(&mut self.feeder, self.backlog.as_slice(), self.moved);
         self.moved += put;
-        self.put = self.put.saturating_add(put as u64);
+        self.put += put as u64;
         if self.moved < self.backlog.len() {
             return;
         }
@@ -195,7 +201,10 @@ impl<K: Kid> Row<K> {
         requires empty { handed_up tap ≡ [] }
         requires open { is_finished tap ≡ false }
         requires feeder { fed feeder ≡ [] }
-        ensures { IsNewRow K.tells k c result }
+        requires feed { IsFeedOf (K.tells kid).feed feeder }
+        requires free { known_places feeder ≡ places feeder }
+        requires open_feed { is_open feeder ≡ true }
+        ensures { IsNewRow K.tells k c (K.tells kid).launch result }
     {
         Row {
             k,
@@ -219,19 +228,20 @@ impl<K: Kid> Row<K> {
     }
 
     /// Its input is closed once what is held was fed.
-    #[tactic(auto, using(crate::proofs::Steps::feeds_stay))]
     pub(crate) fn end_input(&mut self)
         requires { IsSound K.tells self.old }
         ensures { Changes K.tells end_marks self.old self.new }
     {
+        if self.feeder.is_open() && self.moved == self.backlog.len() {
+            self.feeder.finish();
+        }
         self.closing = true;
-        self.flush();
         self.input_ended = true;
     }
 
     pub(crate) fn kill(&mut self)
         requires { IsSound K.tells self.old }
-        ensures { Changes K.tells (λ m. m) self.old self.new }
+        ensures { Kills K.tells self.old self.new }
     {
         self.kid.kill();
     }
@@ -267,7 +277,8 @@ impl<K: Kid> Row<K> {
     // What is to be told, first of all what the input took.
     #[tactic(auto, using(crate::proofs::Steps::looked_says, crate::proofs::Steps::nothing_two))]
     fn say(&mut self, alloc: Global) -> Option<Event>
-        requires { IsSound K.tells self.old }
+        requires sound { IsSound K.tells self.old }
+        requires pushed { IsPushed self.old }
         ensures some { IfSome result (Says K.tells self.old self.new) }
         ensures none { IsNone result → HasNothing K.tells self.old self.new }
     {
@@ -279,9 +290,11 @@ impl<K: Kid> Row<K> {
 
     // Bytes that left the ring, and were not told.
     fn say_took(&mut self) -> Option<Event>
-        requires { IsSound K.tells self.old }
+        requires sound { IsSound K.tells self.old }
+        requires pushed { IsPushed self.old }
         ensures some { IfSome result (Says K.tells self.old self.new) }
         ensures none { IsNone result → Looked K.tells self.old self.new }
+        ensures fed_on { IsNone result → IsFedOn K.tells self.new }
     {
         let left = self.left();
         let n = self.put.saturating_sub(left).saturating_sub(self.told);
@@ -298,7 +311,9 @@ impl<K: Kid> Row<K> {
         ensures same { Looked K.tells self.old self.new }
         ensures open { is_open self.new.feeder ≡ true → result + known_places self.new.feeder ≡ places self.new.feeder }
         ensures ended { is_open self.new.feeder ≡ false → result + self.new.told < self.new.put → (K.tells self.new.kid).in_end ≡ Some AtEnd }
+        ensures none { is_open self.new.feeder ≡ false → (K.tells self.new.kid).in_end ≡ Some AtEnd → result ≡ 0 }
         ensures counts { (self.new.told ≡ self.old.told) × (self.new.put ≡ self.old.put) }
+        ensures pushed { IsPushed self.old → IsPushed self.new }
     {
         if self.feeder.is_open() {
             return self.feeder.left() as u64;
@@ -312,7 +327,8 @@ impl<K: Kid> Row<K> {
     // What else is to be told.
     #[tactic(auto, using(crate::proofs::Steps::stays_two, crate::proofs::Steps::says_two))]
     fn say_rest(&mut self, alloc: Global) -> Option<Event>
-        requires { IsSound K.tells self.old }
+        requires sound { IsSound K.tells self.old }
+        requires fed_on { IsFedOn K.tells self.old }
         ensures some { IfSome result (Says K.tells self.old self.new) }
         ensures none { IsNone result → HasNothing K.tells self.old self.new }
     {
@@ -327,7 +343,8 @@ impl<K: Kid> Row<K> {
 
     // An event of the output, where one is asked for.
     fn say_output(&mut self, alloc: Global) -> Option<Event>
-        requires { IsSound K.tells self.old }
+        requires sound { IsSound K.tells self.old }
+        requires fed_on { IsFedOn K.tells self.old }
         ensures some { IfSome result (Says K.tells self.old self.new) }
         ensures none { IsNone result → HasNoOutput K.tells self.old self.new }
     {
@@ -420,6 +437,10 @@ fn feed_from(feeder: &mut Feeder, held: &[u8], moved: usize) -> usize
     ensures fed { fed feeder.new ++ drop (moved + result) held.now ≡ fed feeder.old ++ drop moved held.now }
     ensures grew { length (fed feeder.new) ≡ length (fed feeder.old) + result }
     ensures open { is_open feeder.new ≡ true }
+    ensures ring { SameFeeder feeder.old feeder.new }
+    ensures places { places feeder.new ≡ places feeder.old }
+    ensures room { known_places feeder.old ≤ known_places feeder.new + result }
+    ensures short { moved + result < length held.now → known_places feeder.new ≡ 0 }
 {
     feeder.feed(&held[moved..])
 }

@@ -1,7 +1,7 @@
 // The children that run.
-ghost use Rattle.std.specs.Prelude.{◌≡◌, ◌+◌, ◌≤◌, ◌<◌, ◌++◌, ◌∷◌, [], ◌==◌, nat_lt, count_by, IfOk, OnOk, OnErr, IfSome, IsNone, is_ok, if◌then◌else◌};
+ghost use Rattle.std.specs.Prelude.{◌≡◌, ◌+◌, ◌%◌, ◌^◌, ◌≤◌, ◌<◌, ◌++◌, ◌∷◌, [], ◌==◌, nat_lt, count_by, vec_len, IfOk, OnOk, OnErr, IfSome, IsNone, is_ok, if◌then◌else◌};
 ghost use Rattle.host_base.specs.Outsides.{Rose};
-ghost use Rattle.child_edge.specs.Rows.{IsQuiet, Each, OneSays, AllSound, OnKept, Feeds, Stays, IsNewRow, StartsRow, Changes, Releases, want_marks, end_marks, kept, is_kept, runs};
+ghost use Rattle.child_edge.specs.Rows.{IsQuiet, Each, OneSays, AllSound, OnKept, Feeds, Stays, IsNewRow, StartsRow, Changes, Kills, Releases, want_marks, end_marks, kept, is_kept, runs};
 ghost use Rattle.child_edge.specs.Starts.{counts_after, no_starts};
 
 use super::round::round;
@@ -53,6 +53,9 @@ impl<S: Spawner + Drop> ChildSet<S> {
         ensures cap { self.new.cap ≡ self.old.cap }
         ensures counts { self.new.counts ≡ self.old.counts }
         ensures faults { S.faults self.old.spawner ≤ S.faults self.new.spawner }
+
+        // A kid that is kept no more was given back.
+        ensures kids { (S.taken self.new.spawner + vec_len self.new.rows) % 2 ^ 64 ≡ (S.taken self.old.spawner + vec_len self.old.rows) % 2 ^ 64 }
         ensures sound { AllSound S.Kid.tells self.new.rows.items }
     {
         self.drop_settled();
@@ -62,13 +65,14 @@ impl<S: Spawner + Drop> ChildSet<S> {
         Some(heard.event)
     }
 
-    #[tactic(auto, using(crate::proofs::Lists::sound_filter))]
+    #[tactic(auto, using(crate::proofs::Lists::sound_filter, crate::proofs::Kept::one_taken))]
     fn drop_settled(&mut self)
         requires { AllSound S.Kid.tells self.old.rows.items }
         ensures kept { self.new.rows.items ≡ kept self.old.rows.items }
         ensures cap { self.new.cap ≡ self.old.cap }
         ensures counts { self.new.counts ≡ self.old.counts }
         ensures faults { S.faults self.old.spawner ≤ S.faults self.new.spawner }
+        ensures kids { (S.taken self.new.spawner + vec_len self.new.rows) % 2 ^ 64 ≡ (S.taken self.old.spawner + vec_len self.old.rows) % 2 ^ 64 }
         ensures sound { AllSound S.Kid.tells self.new.rows.items }
     {
         let mut at = 0;
@@ -121,7 +125,7 @@ impl<S: Spawner + Drop> ChildSet<S> {
     /// Kills child k.
     pub fn kill(&mut self, k: u64)
         requires { AllSound S.Kid.tells self.old.rows.items }
-        ensures same { OnKept (Changes S.Kid.tells (λ m. m)) k self.old.rows.items self.new.rows.items }
+        ensures killed { OnKept (Kills S.Kid.tells) k self.old.rows.items self.new.rows.items }
         ensures cap { self.new.cap ≡ self.old.cap }
         ensures counts { self.new.counts ≡ self.old.counts }
         ensures spawner { self.new.spawner ≡ self.old.spawner }
@@ -167,11 +171,13 @@ impl<S: Spawner + Drop> ChildSet<S> {
     }
 
     /// Ends every child: the spawner takes back all kids, and none is kept.
+    #[tactic(auto, using(crate::proofs::Kept::one_taken, crate::proofs::Kept::all_taken))]
     pub fn end(&mut self)
         ensures none { self.new.rows.items ≡ [] }
         ensures cap { self.new.cap ≡ self.old.cap }
         ensures counts { self.new.counts ≡ self.old.counts }
         ensures faults { S.faults self.old.spawner ≤ S.faults self.new.spawner }
+        ensures taken { S.taken self.new.spawner % 2 ^ 64 ≡ (S.taken self.old.spawner + vec_len self.old.rows) % 2 ^ 64 }
     {
         while let Some(row) = self.rows.pop() {
             self.spawner.take_back(row.into_kid());
@@ -189,7 +195,7 @@ impl<S: Spawner + Drop> ChildSet<S> {
     pub fn start(&mut self, k: u64, c: u64, launch: &Launch) -> Result<(), SpawnFault>
         requires sound { AllSound S.Kid.tells self.old.rows.items }
         requires room { count_by is_kept self.old.rows.items < self.old.cap }
-        ensures ok { OnOk result (StartsRow S.Kid.tells k c (kept self.old.rows.items) self.new.rows.items) }
+        ensures ok { OnOk result (StartsRow S.Kid.tells k c launch.now (kept self.old.rows.items) self.new.rows.items) }
         ensures err { OnErr result (self.new.rows.items ≡ kept self.old.rows.items) }
         ensures sound { AllSound S.Kid.tells self.new.rows.items }
         ensures cap { self.new.cap ≡ self.old.cap }
@@ -204,7 +210,7 @@ impl<S: Spawner + Drop> ChildSet<S> {
 
     fn try_start(&mut self, k: u64, c: u64, launch: &Launch) -> Result<(), SpawnFault>
         requires sound { AllSound S.Kid.tells self.old.rows.items }
-        ensures ok { OnOk result (StartsRow S.Kid.tells k c (kept self.old.rows.items) self.new.rows.items) }
+        ensures ok { OnOk result (StartsRow S.Kid.tells k c launch.now (kept self.old.rows.items) self.new.rows.items) }
         ensures err { OnErr result (self.new.rows.items ≡ kept self.old.rows.items) }
         ensures sound { AllSound S.Kid.tells self.new.rows.items }
         ensures cap { self.new.cap ≡ self.old.cap }
@@ -228,7 +234,7 @@ impl<S: Spawner + Drop> ChildSet<S> {
         ensures rows { self.new.rows ≡ self.old.rows }
         ensures cap { self.new.cap ≡ self.old.cap }
         ensures counts { self.new.counts ≡ self.old.counts }
-        ensures row { IfOk result (IsNewRow S.Kid.tells k c) }
+        ensures row { IfOk result (IsNewRow S.Kid.tells k c launch.now) }
         ensures faults { S.faults self.old.spawner ≤ S.faults self.new.spawner }
         ensures failed { result ≡ Err SpawnFault.Failed → Rose (S.faults self.old.spawner) (S.faults self.new.spawner) }
     {

@@ -1,3 +1,4 @@
 pub mod Causes
 pub mod Quiet
 pub mod Stops
+pub mod Fresh

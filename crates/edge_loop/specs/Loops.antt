@@ -16,7 +16,7 @@ use Rattle.child_edge.specs.declared.row.Row.{Row}
 use Rattle.child_edge.specs.Rows.{OneSays, Each, Rests, kept, is_kept}
 use Rattle.booked_children.specs.Booked.{Begins, ChildrenDo}
 use Rattle.socket_set.specs.Sets.{SetState, Tells, IsQuiet as IsQuietSet, Counted as CountedBySet, Acts as SetActs, clients, is_open_at}
-use Rattle.edge_loop.specs.Orders.{ticked, ordered_by, stopped_by}
+use Rattle.edge_loop.specs.Orders.{no_end, ticked, ordered_by, stopped_by}
 use Rattle.edge_loop.specs.declared.orders.Order.{Order}
 use Rattle.edge_loop.specs.declared.orders.Order.TheVariants.{Stop as StopNow, Drain}
 use Rattle.edge_loop.specs.declared.asked.Asked.{Asked}
@@ -84,8 +84,18 @@ module _ {K : Type 0} where
     pub rows : s.rows ≡ []
     pub starts : s.starts ≡ []
     pub unstarted : s.unstarted ≡ None
+    pub ending : s.ending ≡ no_end
     pub counts : (s.full ≡ 0) × (s.child_faults ≡ 0)
     pub limit_is : s.limit ≡ limit
+
+  -- nobody was let in and may be, no child was asked for, nothing was ordered, and nothing failed
+  pub record IsFresh (s : LoopState K) : Type 0 where
+    pub nobody : (s.set.rows ≡ []) × (s.set.accepted ≡ 0) × (s.set.ticked ≡ 0)
+    pub listening : s.set.listening ≡ true
+    pub none_kept : s.rows ≡ []
+    pub none_asked : (s.starts ≡ []) × (s.unstarted ≡ None)
+    pub ending : s.ending ≡ no_end
+    pub counts : (s.set.faults ≡ 0) × (s.full ≡ 0) × (s.child_faults ≡ 0)
 
   -- nothing of a child was told, and those that are settled may be gone
   abbrev pub ChildrenRest : (K → KidTells) → List (Row K) → List (Row K) → Type 0
@@ -157,7 +167,7 @@ module _ {K : Type 0} where
 
   -- a child was tried to be started
   pub record IsBegun (tells : K → KidTells) (asked : Asked) (event : Event) (old new : LoopState K) : Type 0 where
-    pub begins : Begins tells asked.k asked.c event old.rows new.rows
+    pub begins : Begins tells asked.k asked.c asked.launch event old.rows new.rows
     pub unstarted : new.unstarted ≡ unstarted_by event asked.k old.unstarted
     pub starts : new.starts ≡ old.starts
     pub set : new.set ≡ old.set
@@ -173,7 +183,7 @@ module _ {K : Type 0} where
     pub asked : Asked
     pub answered : old.unstarted ≡ None
     pub first : old.starts ≡ asked ∷ new.starts
-    pub begins : Begins tells asked.k asked.c event old.rows new.rows
+    pub begins : Begins tells asked.k asked.c asked.launch event old.rows new.rows
     pub reachable : TellsOpen event old.set
     pub unstarted : new.unstarted ≡ unstarted_by event asked.k old.unstarted
     pub set : new.set ≡ old.set

@@ -8,8 +8,6 @@ mod ending;
 mod orders;
 mod outside;
 mod stock;
-#[cfg(test)]
-mod tests;
 mod world;
 
 pub use asked::Asked;

@@ -1,6 +1,7 @@
 // The parts of the ledger: those that no loop has, and those that are given out with a loop and come back.
 ghost use Rattle.std.specs.Prelude.{◌≡◌, ◌+◌, ◌<◌, ◌≤◌, ℕ, IfOk, OnOk, OnErr, All, vec_len, vec_capacity};
 ghost use Rattle.host_base.specs.Outsides.{Rose};
+ghost use Rattle.edge_loop.specs.Loops.{IsFresh};
 
 use super::{NetOutside, Orders};
 use booked_children::BookedChildren;
@@ -110,6 +111,7 @@ pub(crate) fn take_back<
 }
 
 // One outside, with one part.
+#[tactic(auto, using(crate::proofs::Fresh::is_fresh))]
 fn join<P: Ports + Drop, S: Spawner + Drop, O: Orders + Drop, L: Ledger, R: Wait + Copy + Drop>(
     rt: R,
     alloc: Global,
@@ -121,6 +123,7 @@ fn join<P: Ports + Drop, S: Spawner + Drop, O: Orders + Drop, L: Ledger, R: Wait
     requires room { 0 < rest.old.parts }
     requires none { rest.old.amount ≡ 0 }
     ensures limit { IfOk result (λ out. out.limit ≡ limits.now.children) }
+    ensures fresh { IfOk result IsFresh }
     ensures none { rest.new.amount ≡ 0 }
     ensures ok { OnOk result (rest.new.parts + 1 ≡ rest.old.parts) }
     ensures err { OnErr result ((rest.new.parts ≡ rest.old.parts) × (result ≡ Err EnterFault.NoMemory)) }
@@ -153,6 +156,7 @@ fn give_one<M: Maker, L: Ledger, R: Wait + Copy + Drop>(
     requires room { 0 < rest.old.parts }
     requires none { rest.old.amount ≡ 0 }
     ensures limit { IfOk result (λ out. out.limit ≡ limits.now.children) }
+    ensures fresh { IfOk result IsFresh }
     ensures none { rest.new.amount ≡ 0 }
     ensures ok { OnOk result (rest.new.parts + 1 ≡ rest.old.parts) }
     ensures err { OnErr result (rest.new.parts ≡ rest.old.parts) }
@@ -177,6 +181,7 @@ pub(crate) fn give<M: Maker, L: Ledger, R: Wait + Copy + Drop>(
     requires none { rest.old.amount ≡ 0 }
     ensures count { IfOk result (λ outs. vec_len outs ≡ loops) }
     ensures limit { IfOk result (λ outs. All (λ o. o.limit ≡ limits.now.children) outs.items) }
+    ensures fresh { IfOk result (λ outs. All IsFresh outs.items) }
     ensures none { rest.new.amount ≡ 0 }
     ensures ok { OnOk result (rest.new.parts + loops ≡ rest.old.parts) }
     ensures err { OnErr result (rest.new.parts ≡ rest.old.parts) }

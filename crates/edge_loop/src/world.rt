@@ -1,6 +1,7 @@
 // The world of several loops, whose children are counted in one book.
 ghost use Rattle.std.specs.Prelude.{◌≡◌, ◌+◌, ◌≤◌, ◌⊎◌, IfOk, OnOk, OnErr, IsSome, IsNone, All, vec_len};
 ghost use Rattle.host_base.specs.Outsides.{Rose};
+ghost use Rattle.edge_loop.specs.Loops.{IsFresh};
 
 use super::stock::Sixteen;
 use super::{Maker, NetOutside, stock};
@@ -133,6 +134,7 @@ impl<M: Maker, L: Ledger, R: Wait + Copy + Drop> NetWorld<M, L, R> {
     ) -> Result<Vec<NetOutside<M::Ports, M::Spawner, M::Orders, L, R>>, EnterFault>
         ensures count { IfOk result (λ outs. vec_len outs ≡ loops) }
         ensures limit { IfOk result (λ outs. All (λ o. o.limit ≡ site.now.limits.children) outs.items) }
+        ensures fresh { IfOk result (λ outs. All IsFresh outs.items) }
         ensures ok { OnOk result (self.new.out ≡ self.old.out + loops) }
         ensures err { OnErr result (self.new.out ≡ self.old.out) }
         ensures faults { self.new.faults ≡ self.old.faults }
@@ -159,6 +161,7 @@ impl<M: Maker, L: Ledger, R: Wait + Copy + Drop> NetWorld<M, L, R> {
         requires open { IsSome self.old.book }
         ensures count { IfOk result (λ outs. vec_len outs ≡ loops) }
         ensures limit { IfOk result (λ outs. All (λ o. o.limit ≡ limits.now.children) outs.items) }
+        ensures fresh { IfOk result (λ outs. All IsFresh outs.items) }
         ensures ok { OnOk result (self.new.out ≡ self.old.out + loops) }
         ensures err { OnErr result (self.new.out ≡ self.old.out) }
         ensures faults { self.new.faults ≡ self.old.faults }
@@ -188,6 +191,7 @@ impl<M: Maker, L: Ledger, R: Wait + Copy + Drop> NetWorld<M, L, R> {
 impl<M: Maker, L: Ledger, R: Wait + Copy + Drop> NetWorld<M, L, R> {
     ghost use Rattle.std.specs.Prelude.{◌≡◌, ◌≤◌, ◌+◌, IfOk, OnOk, OnErr, All, vec_len};
     ghost use Rattle.host_base.specs.Outsides.{Rose};
+    ghost use Rattle.edge_loop.specs.Loops.{IsFresh};
 
     /// Gives one outside for each loop, at the address of a site. It fails where the address can't be taken, where
     /// more loops are asked for than the ledger has parts, and where another number of children may run than in the
@@ -199,6 +203,7 @@ impl<M: Maker, L: Ledger, R: Wait + Copy + Drop> NetWorld<M, L, R> {
     ) -> Result<Vec<NetOutside<M::Ports, M::Spawner, M::Orders, L, R>>, EnterFault>
         ensures count { IfOk result (λ outs. vec_len outs ≡ loops) }
         ensures limit { IfOk result (λ outs. All (λ o. o.limit ≡ site.now.limits.children) outs.items) }
+        ensures fresh { IfOk result (λ outs. All IsFresh outs.items) }
         ensures out { OnOk result (self.new.out ≡ self.old.out + loops) }
         ensures err { OnErr result (self.new.out ≡ self.old.out) }
         ensures faults { self.old.faults ≤ self.new.faults }

@@ -7,6 +7,6 @@ mod maker;
 mod stdin;
 
 pub use line::OrderLine;
-pub use listening::Listening;
+pub use listening::{Listening, Refused};
 pub use maker::NetMaker;
 pub use stdin::{StdinOrders, Told};

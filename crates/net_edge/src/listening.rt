@@ -1,6 +1,6 @@
-// The line that says where a server listens.
+// The lines that say where a server listens, or can't.
 ghost use Rattle.std.specs.Prelude.{Some};
-ghost use Rattle.net_edge.specs.Makers.{listening_text};
+ghost use Rattle.net_edge.specs.Makers.{listening_text, refused_text};
 
 use std::fmt;
 
@@ -16,5 +16,24 @@ impl fmt::Display for Listening<'_> {
 
     fn fmt<W: fmt::Write>(&self, f: &mut fmt::Formatter<W>) -> fmt::Result {
         write!(f, "cgihost: listening on {}:{}", self.address, self.port)
+    }
+}
+
+/// Says where a server can't listen, and what to do.
+#[derive(Clone, Copy)]
+pub struct Refused<'s> {
+    pub address: &'s str,
+    pub port: u16,
+}
+
+impl fmt::Display for Refused<'_> {
+    ghost output = { λ r. Some (refused_text r.address.now r.port) };
+
+    fn fmt<W: fmt::Write>(&self, f: &mut fmt::Formatter<W>) -> fmt::Result {
+        write!(
+            f,
+            "cgihost: end what listens there, or set another port in the site file: {}:{}",
+            self.address, self.port
+        )
     }
 }

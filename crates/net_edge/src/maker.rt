@@ -2,7 +2,7 @@
 ghost use Rattle.std.specs.Prelude.{◌≡◌, ◌≤◌, IfOk};
 ghost use Rattle.host_base.specs.Outsides.{Rose};
 
-use super::{Listening, StdinOrders, Told};
+use super::{Listening, Refused, StdinOrders, Told};
 use child_edge::SpawnFault;
 use edge_loop::{Maker, Parts};
 use host_base::{NoMemory, Site, Text};
@@ -207,6 +207,15 @@ impl<R: Eprint, T> NetMaker<R, T> {
             let _ = self.rt.eprintln(line);
         }
     }
+
+    // Says on standard error that it can't listen there.
+    fn say_refused(&self, site: &Site) {
+        let line = Refused {
+            address: site.listen.as_str(),
+            port: site.port,
+        };
+        let _ = self.rt.eprintln(line);
+    }
 }
 
 impl<
@@ -222,7 +231,11 @@ impl<
     ghost faults = { λ m. m.faults };
 
     fn listen(&mut self, site: &Site, _loops: u32) -> Result<(), EnterFault> {
-        self.listen_at(site)
+        let listened = self.listen_at(site);
+        if let Err(EnterFault::Failed) = &listened {
+            self.say_refused(site);
+        }
+        listened
     }
 
     fn make(&mut self) -> Result<Parts<NetPorts<R>, StdSpawner<R, T>, StdinOrders>, EnterFault> {
@@ -231,5 +244,7 @@ impl<
 
     fn begin(&mut self) {
         self.say();
+        // Each loop has its own hand on it: once all have let go of it the address is free.
+        self.listener = None;
     }
 }

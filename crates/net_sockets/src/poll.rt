@@ -1,5 +1,5 @@
 // A wait for many sockets.
-ghost use Rattle.std.specs.Prelude.{◌≡◌};
+ghost use Rattle.std.specs.Prelude.{◌≡◌, ◌∷◌, [], IfOk, IfSome, IsNone};
 ghost use Rattle.net_sockets.specs.Nets.{RisesUnless};
 
 use mio::event::Event;
@@ -29,7 +29,9 @@ pub(crate) struct CountedPoll {
 }
 
 impl CountedPoll {
-    pub fn new<N: Net>(net: &N, alloc: Global) -> io::Result<Self> {
+    pub fn new<N: Net>(net: &N, alloc: Global) -> io::Result<Self>
+        ensures { IfOk result (λ poll. poll.reports.items ≡ []) }
+    {
         Ok(CountedPoll {
             poll: Poll::new(net)?,
             events: Events::with_capacity(alloc, REPORTS)?,
@@ -45,6 +47,11 @@ impl CountedPoll {
     pub fn listen(&self, descriptor: RawFd) -> io::Result<()> {
         self.registry()
             .register(&mut SourceFd(&descriptor), LISTENER, Interest::READABLE)
+    }
+
+    /// Has it reported no more.
+    pub fn unlisten(&self, descriptor: RawFd) {
+        let _ = self.registry().deregister(&mut SourceFd(&descriptor));
     }
 
     /// What ends a wait.
@@ -78,7 +85,10 @@ impl CountedPoll {
     }
 
     /// One report of the last wait, and only once.
-    pub fn report(&mut self) -> Option<Ready> {
+    pub fn report(&mut self) -> Option<Ready>
+        ensures first { IfSome result (λ report. self.old.reports.items ≡ report ∷ self.new.reports.items) }
+        ensures none { IsNone result → self.old.reports.items ≡ [] }
+    {
         self.reports.pop_front()
     }
 }

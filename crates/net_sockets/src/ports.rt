@@ -26,7 +26,8 @@ pub struct NetPorts<R> {
     rt: R,
     alloc: Global,
     poll: CountedPoll,
-    listener: Listener,
+    // Until no further client is to come.
+    listener: Option<Listener>,
     // What the clock showed when it was made.
     start: Duration,
     shown: u64,
@@ -49,7 +50,7 @@ impl<R: Net + Clock + Drop> NetPorts<R> {
                 rt,
                 alloc,
                 poll,
-                listener,
+                listener: Some(listener),
                 start,
                 shown: 0,
                 looks: 0,
@@ -104,12 +105,19 @@ fn client_of(alloc: Global, stream: TcpStream, ip: IpAddr) -> Result<Arrival<Tcp
 }
 
 impl<R: Clock> Ports for NetPorts<R> {
+    ghost use Rattle.std.specs.Prelude.{◌≡◌};
+    ghost use Rattle.net_sockets.specs.Nets.{ports_tell, GivesReport};
+
     type Socket = TcpSocket;
 
-    ghost tells = { λ p. record { shown = p.shown; looks = p.looks; waits = p.waits; failed = p.failed } };
+    ghost tells = { ports_tell };
 
     fn accept(&mut self) -> Arrival<TcpSocket> {
-        match self.listener.accept() {
+        let accepted = match &self.listener {
+            Some(listener) => listener.accept(),
+            None => return Arrival::Nothing,
+        };
+        match accepted {
             Ok((stream, address)) => match client_of(self.alloc, stream, address.ip()) {
                 Ok(client) => client,
                 Err(_) => {
@@ -122,6 +130,12 @@ impl<R: Clock> Ports for NetPorts<R> {
                 self.count();
                 Arrival::Failed
             }
+        }
+    }
+
+    fn end_listening(&mut self) {
+        if let Some(listener) = self.listener.take() {
+            self.poll.unlisten(listener.descriptor());
         }
     }
 
@@ -148,7 +162,10 @@ impl<R: Clock> Ports for NetPorts<R> {
         self.poll.wait(millis, &mut self.failed)
     }
 
-    fn ready(&mut self) -> Option<Ready> {
+    fn ready(&mut self) -> Option<Ready>
+        ensures same { ports_tell self.new ≡ ports_tell self.old }
+        ensures given { GivesReport result self.old self.new }
+    {
         self.poll.report()
     }
 

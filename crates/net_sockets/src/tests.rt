@@ -143,6 +143,26 @@ fn room_is_reported_once_it_is_asked_for(rt: HostRuntime) -> Result<(), Fail> {
 }
 
 #[test]
+fn an_address_is_free_once_all_have_let_go_of_it(rt: HostRuntime) -> Result<(), Fail> {
+    let mut network = Network::new(rt, rt.alloc());
+    let Ok(listener) = network.listen("127.0.0.1", 0) else {
+        return Err(Fail::from("it does not listen"));
+    };
+    let port = listener.port();
+    let other = listener.another()?;
+    let (Ok((mut one, _)), Ok((mut two, _))) = (network.ports(listener), network.ports(other))
+    else {
+        return Err(Fail::from("there are no ports"));
+    };
+    one.end_listening();
+    assert!(rt; network.listen("127.0.0.1", port).is_err());
+    two.end_listening();
+    assert!(rt; network.listen("127.0.0.1", port).is_ok());
+    assert!(rt; matches!(one.accept(), Arrival::Nothing));
+    Ok(())
+}
+
+#[test]
 fn a_bell_ends_a_wait_and_the_clock_goes_on(rt: HostRuntime) -> Result<(), Fail> {
     let Ok((mut ports, bell, _)) = listening(rt, rt.alloc()) else {
         return Err(Fail::from("it does not listen"));

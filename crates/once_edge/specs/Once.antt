@@ -14,7 +14,7 @@ use Rattle.host_trace.specs.declared.outside.Acted.TheVariants.{Done, NoRoom as 
 use Rattle.host_trace.specs.Told.{is_failure}
 use Rattle.child_edge.specs.Kids.{KidTells}
 use Rattle.child_edge.specs.declared.row.Row.{Row}
-use Rattle.child_edge.specs.Rows.{OneSays, Each, Rests, OnKept, Feeds, Changes, Releases, StartsRow, want_marks, end_marks, kept, is_kept, runs}
+use Rattle.child_edge.specs.Rows.{OneSays, Each, Rests, OnKept, Feeds, Changes, Kills, Releases, StartsRow, want_marks, end_marks, kept, is_kept, runs}
 use Rattle.child_edge.specs.declared.starts.StartCounts.{StartCounts}
 use Rattle.child_edge.specs.Starts.{no_starts, has_started, has_failed, has_wanted}
 use Rattle.socket_set.specs.Clients.{ClientState, Says, Rests as ClientRests, IsNewClient, UnlessShut, WantsMore, Writes, Upgrades, Frames, Shuts}
@@ -172,14 +172,15 @@ module _ {K : Type 0} where
     pub tried : new.tried ≡ has_wanted old.tried
     pub rows : new.rows ≡ kept old.rows
 
-  -- What a start of child k of connection c is answered with, by what it did to the children. Where no memory was found,
+  -- What a start of child k of connection c by a launch is answered with, by what it did to the children. Where no memory was found,
   -- NoRoom is told, and where the client was shut, StartFailed.
-  abbrev pub Begins : (K → KidTells) → ℕ → ℕ → Event → OnceState K → OnceState K → Type 0
-  Begins tells k c (Started j) old new = (j ≡ k) × (new.tried ≡ has_started old.tried) × StartsRow tells k c (kept old.rows) new.rows
-  Begins tells k c (StartFailed j) old new =
+  abbrev pub Begins : (K → KidTells) → ℕ → ℕ → Launch → Event → OnceState K → OnceState K → Type 0
+  Begins tells k c launch (Started j) old new =
+      (j ≡ k) × (new.tried ≡ has_started old.tried) × StartsRow tells k c launch (kept old.rows) new.rows
+  Begins tells k c launch (StartFailed j) old new =
       (j ≡ k) × (HadNoRoom old new ⊎ StartFails old new ⊎ ((old.client.shut ≡ true) × StartWants old new))
-  Begins tells k c (NoRoom d) old new = (d ≡ c) × (old.client.shut ≡ false) × StartWants old new
-  Begins tells k c _ old new = ⊥
+  Begins tells k c launch (NoRoom d) old new = (d ≡ c) × (old.client.shut ≡ false) × StartWants old new
+  Begins tells k c launch _ old new = ⊥
 
   -- what a start leaves as it was
   pub record SameRest (old new : OnceState K) : Type 0 where
@@ -189,7 +190,7 @@ module _ {K : Type 0} where
 
   -- a child was tried to be started
   pub record IsBegun (tells : K → KidTells) (asked : Asked) (event : Event) (old new : OnceState K) : Type 0 where
-    pub begins : Begins tells asked.k asked.c event old new
+    pub begins : Begins tells asked.k asked.c asked.launch event old new
     pub unstarted : new.unstarted ≡ unstarted_by event asked.k old.unstarted
     pub starts : new.starts ≡ old.starts
     pub rest : SameRest old new
@@ -199,7 +200,7 @@ module _ {K : Type 0} where
     pub asked : Asked
     pub answered : old.unstarted ≡ None
     pub first : old.starts ≡ asked ∷ new.starts
-    pub begins : Begins tells asked.k asked.c event old new
+    pub begins : Begins tells asked.k asked.c asked.launch event old new
     pub unstarted : new.unstarted ≡ unstarted_by event asked.k old.unstarted
     pub rest : SameRest old new
 
@@ -275,7 +276,7 @@ module _ {K : Type 0} where
   Acts tells (Shut c why) Done old new = OnClient Shuts old new
   Acts tells (EndInput k) Done old new = OnChildren (OnKept (Changes tells end_marks) k) old new
   Acts tells (WantChild k) Done old new = OnChildren (OnKept (Changes tells want_marks) k) old new
-  Acts tells (Kill k) Done old new = OnChildren (OnKept (Changes tells (λ m. m)) k) old new
+  Acts tells (Kill k) Done old new = OnChildren (OnKept (Kills tells) k) old new
   Acts tells (Release k) Done old new = OnChildren (OnKept (Releases tells) k) old new
   Acts tells (Start k c j hop launch) HasNoRoom old new = new ≡ old
   Acts tells (Write c bytes) HasNoRoom old new = new ≡ old

@@ -5,8 +5,6 @@
 mod asked;
 mod outside;
 mod socket;
-#[cfg(test)]
-mod tests;
 mod world;
 
 pub use asked::Asked;

@@ -328,8 +328,15 @@ impl<
         ensures some { IfSome result (λ event. OnClient (λ r s. Says 0 r s event) self.old self.new) }
         ensures none { IsNone result → OnClient Rests self.old self.new }
     {
-        self.client.note(false);
+        self.wake_client();
         self.client.ask(self.alloc, 0, self.buffer.as_mut_slice())
+    }
+
+    // The bytes of the client may have come, and it may take some.
+    fn wake_client(&mut self)
+        ensures { self.new ≡ self.old }
+    {
+        self.client.note(false);
     }
 
     // Sends what waits for a client that was shut, unless it failed. Where that can't be done, it is counted.

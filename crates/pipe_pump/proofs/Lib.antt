@@ -1,3 +1,4 @@
 pub mod Fronts
 pub mod Gone
 pub mod Crosses
+pub mod Handed

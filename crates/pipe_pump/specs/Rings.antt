@@ -1,6 +1,9 @@
 -- Words on the ends of rings.
 use Rattle.std.specs.Prelude.{◌≡◌, ℕ, List, [], Some, None, is_some, Bool, true, false}
 use Rattle.rtrb.specs.Ring.{sent, received, known_items, known_free, producer_capacity, IsPair, SameProducer, SameConsumer}
+use Rattle.std.specs.declared.alloc.Global.{Global}
+use Rattle.rtrb.specs.declared.producer.Producer.{Producer}
+use Rattle.rtrb.specs.declared.AnyItems.{AnyItems}
 use Rattle.pipe_pump.specs.Hands.{IsMarkFor}
 use Rattle.pipe_pump.specs.declared.ends.RingEnd.{RingEnd}
 use Rattle.pipe_pump.specs.declared.ends.RingEnd.TheVariants.{Output, Input}
@@ -58,9 +61,26 @@ is_finished tap = is_some tap.producer
 
 -- ---- a ring from a feeder to a pump
 
+-- the end by which a feeder puts bytes in, or did before the feed was ended
+abbrev pub producer_of : FeedState → Producer ℕ Global AnyItems
+producer_of (Open p) = p
+producer_of (Ended m) = m.value
+
 -- the mark is of the ring, and no byte was taken out yet
 abbrev pub IsFreshFeed : FeedRing → Type 0
 IsFreshFeed ring = IsMarkFor (received ring.hand) ring.source.consumer × (received ring.source.consumer ≡ [])
+
+-- the pump takes out what the feeder is given, and has the other end of what that is ended by
+abbrev pub IsFeedOf : FeedRing → Feeder → Type 0
+IsFeedOf ring feeder = IsPair (producer_of feeder.state) ring.source.consumer × IsPair feeder.hand ring.hand
+
+-- the feeder of the same ring
+abbrev pub SameFeeder : Feeder → Feeder → Type 0
+SameFeeder a b = SameProducer (producer_of a.state) (producer_of b.state) × SameProducer a.hand b.hand
+
+-- the pump's end of the same ring
+abbrev pub SameFeedRing : FeedRing → FeedRing → Type 0
+SameFeedRing a b = SameConsumer a.source.consumer b.source.consumer
 
 -- what a pump gave back is the end of the ring that it was given
 abbrev pub IsFeedEndOf : FeedRing → RingEnd → Type 0

@@ -1,8 +1,8 @@
 // A ring that a pump empties.
 ghost use Rattle.std.specs.Prelude.{◌≡◌, ◌<◌, [], true, IfOk};
-ghost use Rattle.rtrb.specs.Ring.{sent, received, known_free};
+ghost use Rattle.rtrb.specs.Ring.{sent, received, known_free, IsPair};
 ghost use Rattle.pipe_pump.specs.Hands.{IsMarked};
-ghost use Rattle.pipe_pump.specs.Rings.{IsFreshFeed, fed, is_open};
+ghost use Rattle.pipe_pump.specs.Rings.{IsFreshFeed, IsFeedOf, fed, is_open, places, known_places};
 
 use super::feeder::Feeder;
 use super::hand::{Hand, OneRing};
@@ -40,8 +40,10 @@ pub enum FeedLook {
 pub fn feed_rings(alloc: Global, size: usize) -> Result<(Feeder, FeedRing), NoMemory>
     requires { 0 < size }
     ensures fresh { IfOk result (λ r. IsFreshFeed r.1) }
+    ensures pair { IfOk result (λ r. IsFeedOf r.1 r.0) }
     ensures empty { IfOk result (λ r. fed r.0 ≡ []) }
     ensures open { IfOk result (λ r. is_open r.0 ≡ true) }
+    ensures places { IfOk result (λ r. (places r.0 ≡ size) × (known_places r.0 ≡ size)) }
 {
     let (producer, consumer) = RingBuffer::new(alloc, size)?;
     let (giver, taker) = hand_ring(alloc, &producer)?;
@@ -70,6 +72,7 @@ fn hand_ring(
     ensures giver { IfOk result (λ r. IsMarked producer.now (sent r.0)) }
     ensures taker { IfOk result (λ r. IsMarked producer.now (received r.1)) }
     ensures room { IfOk result (λ r. 0 < known_free r.0) }
+    ensures pair { IfOk result (λ r. IsPair r.0 r.1) }
 {
     let (giver, taker) = RingBuffer::with_protocol::<Global, OneRing>(alloc, 2)?;
     let mut giver = giver;
@@ -83,13 +86,15 @@ fn hand_ring(
 impl FeedRing {
     ghost use Rattle.std.specs.Prelude.{◌≡◌, ◌<◌, ◌↔◌, ◌≢◌, [], length};
     ghost use Rattle.rtrb.specs.Ring.{known_items};
-    ghost use Rattle.pipe_pump.specs.Rings.{IsFreshFeed};
+    ghost use Rattle.pipe_pump.specs.Rings.{IsFreshFeed, SameFeedRing};
 
     /// Looks whether there is anything for a pump to do. Once a feed was ended all of its bytes are seen.
     pub fn look(&mut self) -> FeedLook
         ensures fresh { IsFreshFeed self.old → IsFreshFeed self.new }
+        ensures ring { SameFeedRing self.old self.new }
         ensures bytes { (result ≡ FeedLook.Bytes) ↔ (0 < length (known_items self.new.source.consumer)) }
         ensures ended { result ≡ FeedLook.Ended → 0 < length (known_items self.new.hand) }
+        ensures open { result ≡ FeedLook.Nothing → known_items self.new.hand ≡ [] }
     {
         let is_ended = self.hand.slots() > 0;
         if self.source.consumer.slots() > 0 {

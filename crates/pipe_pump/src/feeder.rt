@@ -33,9 +33,9 @@ impl Drop for Feeder {
 
 impl Feeder {
     ghost use Rattle.std.specs.Prelude.{◌≡◌, ◌+◌, ◌≤◌, ◌<◌, ◌++◌, true, false, length, take as list_take};
-    ghost use Rattle.rtrb.specs.Ring.{sent, known_free};
+    ghost use Rattle.rtrb.specs.Ring.{sent, known_free, producer_capacity};
     ghost use Rattle.pipe_pump.specs.Hands.{IsOfMark};
-    ghost use Rattle.pipe_pump.specs.Rings.{fed, is_open, known_places, places};
+    ghost use Rattle.pipe_pump.specs.Rings.{fed, is_open, known_places, places, producer_of, SameFeeder};
 
     pub(crate) fn new(
         producer: Producer<u8>,
@@ -44,6 +44,8 @@ impl Feeder {
     ) -> Feeder
         requires marked { IsOfMark (sent hand) producer }
         requires room { 0 < known_free hand }
+        ensures producer { (producer_of result.state ≡ producer) × (result.hand ≡ hand) }
+        ensures places { (places result ≡ producer_capacity producer) × (known_places result ≡ known_free producer) }
         ensures fed { fed result ≡ sent producer }
         ensures open { is_open result ≡ true }
     {
@@ -70,6 +72,9 @@ impl Feeder {
         ensures within { result ≤ length from.now }
         ensures fed { fed self.new ≡ fed self.old ++ list_take result from.now }
         ensures open { is_open self.new ≡ true }
+        ensures ring { SameFeeder self.old self.new }
+        ensures places { places self.new ≡ places self.old }
+        ensures room { known_places self.old ≤ known_places self.new + result }
         ensures short { result < length from.now → known_places self.new ≡ 0 }
     {
         match &mut self.state {
@@ -89,6 +94,9 @@ impl Feeder {
         requires { is_open self.old ≡ true }
         ensures fed { fed self.new ≡ fed self.old }
         ensures open { is_open self.new ≡ true }
+        ensures ring { SameFeeder self.old self.new }
+        ensures places { places self.new ≡ places self.old }
+        ensures room { known_places self.old ≤ known_places self.new }
         ensures left { result + known_places self.new ≡ places self.new }
     {
         match &mut self.state {
@@ -105,6 +113,7 @@ impl Feeder {
         requires { is_open self.old ≡ true }
         ensures fed { fed self.new ≡ fed self.old }
         ensures ended { is_open self.new ≡ false }
+        ensures ring { SameFeeder self.old self.new }
     {
         let mark = match &self.state {
             FeedState::Open(producer) => Snapshot::of(producer),

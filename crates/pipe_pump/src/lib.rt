@@ -22,6 +22,3 @@ pub use laws::{feeds_arrive_in_order, pipes_keep_their_bytes};
 pub use pipe::{PipeIn, PipeOut, PipeRead, PipeWrite};
 pub use tap::Tap;
 pub use to_pipe::pump_in;
-
-#[cfg(test)]
-mod tests;

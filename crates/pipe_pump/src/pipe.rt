@@ -1,5 +1,5 @@
 // The pipes that a pump moves bytes from and to.
-ghost use Rattle.std.specs.Prelude.{◌≡◌, ◌≤◌, ◌<◌, ℕ, List, [], Option, length};
+ghost use Rattle.std.specs.Prelude.{◌≡◌, ◌≤◌, ◌<◌, ℕ, Bool, true, List, [], Option, length};
 ghost use Rattle.host_base.specs.Outsides.{Rose};
 ghost use Rattle.pipe_pump.specs.Pipes.{Reads, Writes};
 ghost use Rattle.pipe_pump.specs.declared.pipe.PipeRead.TheVariants as ReadAs;
@@ -48,6 +48,9 @@ pub trait PipeOut {
     /// How often writing failed. It never falls.
     ghost faults: { Self → ℕ };
 
+    /// Nothing more can be written to it.
+    ghost closed: { Self → Bool };
+
     /// Of an empty piece nothing is written and nothing is waited for: it says that the ring is empty now,
     /// and a real pipe then wakes the loop.
     fn write(&mut self, from: &[u8]) -> PipeWrite
@@ -60,5 +63,6 @@ pub trait PipeOut {
     /// Closes it, after all that was fed.
     fn finish(&mut self)
         ensures bytes { Writes (taken self.old) (taken self.new) [] (WroteAs.Took 0) }
+        ensures closed { closed self.new ≡ true }
         ensures count { faults self.old ≤ faults self.new };
 }

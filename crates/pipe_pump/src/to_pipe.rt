@@ -25,6 +25,7 @@ pub fn pump_in<R: Wait, P: PipeOut + Drop>(rt: &R, ring: FeedRing, pipe: P) -> P
     ensures ring { IsFeedEndOf ring result.ring }
     ensures moved { Takes result.end (P.taken pipe) (P.taken result.pipe) (popped result.ring) }
     ensures whole { result.end ≡ PumpEnd.AtEnd → IsWholeFeed result.ring }
+    ensures closed { result.end ≡ PumpEnd.AtEnd → P.closed result.pipe ≡ true }
     ensures count { P.faults pipe ≤ P.faults result.pipe }
     ensures cause { result.end ≡ PumpEnd.Broken → Rose (P.faults pipe) (P.faults result.pipe) }
     ensures spent { result.end ≡ PumpEnd.Spent → length (popped result.ring) ≡ 2 ^ 62 }
@@ -154,6 +155,7 @@ fn pump_rest<R: Wait, P: PipeOut>(
     requires room { 0 < length buffer.old }
     ensures ring { SameConsumer consumer.old consumer.new }
     ensures pair { IsPair producer.new consumer.new }
+    ensures closed { result ≡ PumpEnd.AtEnd → P.closed pipe.new ≡ true }
     ensures count { P.faults pipe.old ≤ P.faults pipe.new }
     ensures stops { Stops (received consumer.new ≡ sent producer.new) ⊥ result (P.taken pipe.old) (P.taken pipe.new) (P.faults pipe.old) (P.faults pipe.new) (received consumer.old) (received consumer.new) }
 {

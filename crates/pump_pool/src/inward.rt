@@ -21,7 +21,7 @@ impl<P: PipeOut> Protocol<Hand<FeedRing, P>> for InRing {
     ghost use Rattle.pump_pool.specs.Hands.{HandAllows};
     ghost use Rattle.pump_pool.specs.Pumped.{PumpedIn};
 
-    ghost allows = { HandAllows (PumpedIn P.taken P.faults) };
+    ghost allows = { HandAllows (PumpedIn P.taken P.faults P.closed) };
 }
 
 /// Room for the end of a pump that is not there yet, so that nothing more can be wanting once it is.
@@ -112,7 +112,7 @@ impl<P: PipeOut + Drop> InPump<P> {
     /// What the pump left, once it has ended, and only once. It doesn't wait.
     #[tactic(auto, using(crate::proofs::Taken::mark_stays))]
     pub fn done(&mut self) -> Option<PumpDone<P>>
-        ensures pumped { IfSome result (PumpedIn P.taken P.faults (feed_of self.old) (input_of self.old)) }
+        ensures pumped { IfSome result (PumpedIn P.taken P.faults P.closed (feed_of self.old) (input_of self.old)) }
         ensures ring { feed_of self.new ≡ feed_of self.old }
         ensures pipe { input_of self.new ≡ input_of self.old }
         ensures given { OnSome result (1 < length (handed_in self.new)) }

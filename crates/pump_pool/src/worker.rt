@@ -96,12 +96,13 @@ impl<J: Job + Drop> Station<J> {
 
 impl<J: Drop> Worker<J> {
     ghost use Rattle.std.specs.Prelude.{◌≡◌, ◌++◌, ◌∷◌, [], IfOk};
-    ghost use Rattle.pump_pool.specs.Workers.{given, given_to, IsPlaceOf};
+    ghost use Rattle.pump_pool.specs.Workers.{given, given_to, IsPlaceOf, WakesAt};
 
     /// A worker, and the place of its thread, which is to be started.
     pub fn pair(alloc: Global) -> Result<(Worker<J>, Station<J>), NoMemory>
         ensures new { IfOk result (λ r. given r.0 ≡ []) }
         ensures place { IfOk result (λ r. IsPlaceOf r.1 r.0) }
+        ensures wakes { IfOk result (λ r. WakesAt r.1 r.0) }
     {
         let (jobs, mailbox) = RingBuffer::new(alloc, 1)?;
         let parker = Parker::new(alloc)?;

@@ -5,6 +5,8 @@ use Rattle.host_trace.specs.declared.items.Act.{Act}
 use Rattle.host_trace.specs.declared.items.Item.{Item}
 use Rattle.host_trace.specs.declared.outside.Acted.{Acted}
 use Rattle.host_trace.specs.declared.world.Entry.{Entry}
+use Rattle.host_trace.specs.declared.world.Mode.{Mode}
+use Rattle.host_trace.specs.declared.world.Mode.TheVariants.{Once as ForOne, Serve as ForLoops}
 use Rattle.std_spawner.specs.Kids.{kid_tells}
 use Rattle.once_edge.specs.Once as once
 use Rattle.edge_loop.specs.Loops as loops
@@ -37,6 +39,12 @@ module _ {K : Type 0} where
   abbrev pub limit_of : Either (OnceState K) (LoopState K) → ℕ
   limit_of (Once o) = o.limit
   limit_of (Serve o) = o.limit
+
+  -- it is of the kind that the world was entered for, and new
+  abbrev pub IsEntered : Mode → Either (OnceState K) (LoopState K) → Type 0
+  IsEntered ForOne (Once o) = once.IsFresh o
+  IsEntered ForLoops (Serve o) = loops.IsFresh o
+  IsEntered _ _ = ⊥
 
 module _ {R T : Type 0} where
   -- the event is owed, by what each says of that

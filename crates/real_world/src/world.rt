@@ -62,12 +62,13 @@ impl<
 > RealWorld<R, T, K, L> {
     ghost use Rattle.std.specs.Prelude.{◌≡◌, ◌≤◌, ◌<◌, ◌+◌, IfOk, OnOk, OnErr, All, vec_len, vec_capacity};
     ghost use Rattle.host_base.specs.Outsides.{Rose};
-    ghost use Rattle.real_world.specs.Reals.{limit_of};
+    ghost use Rattle.real_world.specs.Reals.{limit_of, IsEntered};
 
     // Gives out the one outside over standard input.
     fn enter_once(&mut self, site: &Site) -> Result<Vec<RealOutside<R, T, K, L>>, EnterFault>
         ensures count { IfOk result (λ outs. vec_len outs ≡ 1) }
         ensures limit { IfOk result (λ outs. All (λ o. limit_of o ≡ site.now.limits.children) outs.items) }
+        ensures entered { IfOk result (λ outs. All (IsEntered Mode.Once) outs.items) }
         ensures same { (self.new.out ≡ self.old.out) × (self.new.faults ≡ self.old.faults) }
     {
         let Ok(outs) = Vec::with_capacity(self.alloc, 1) else {
@@ -90,6 +91,7 @@ impl<
     ) -> Result<Vec<RealOutside<R, T, K, L>>, EnterFault>
         ensures count { IfOk result (λ outs. vec_len outs ≡ loops) }
         ensures limit { IfOk result (λ outs. All (λ o. limit_of o ≡ site.now.limits.children) outs.items) }
+        ensures entered { IfOk result (λ outs. All (IsEntered Mode.Serve) outs.items) }
         ensures same { (self.new.out ≡ self.old.out) × (self.new.faults ≡ self.old.faults) }
     {
         let Ok(outs) = Vec::with_capacity(self.alloc, loops as usize) else {
@@ -123,6 +125,7 @@ impl<
         requires once { mode ≡ Mode.Once → loops ≡ 1 }
         ensures count { IfOk result (λ outs. vec_len outs ≡ loops) }
         ensures limit { IfOk result (λ outs. All (λ o. limit_of o ≡ site.now.limits.children) outs.items) }
+        ensures entered { IfOk result (λ outs. All (IsEntered mode) outs.items) }
         ensures same { (self.new.out ≡ self.old.out) × (self.new.faults ≡ self.old.faults) }
     {
         match mode {
@@ -150,7 +153,7 @@ impl<
     ghost use Rattle.host_base.specs.Outsides.{Rose};
     ghost use Rattle.host_trace.specs.Told.{IsNew, Joins};
     ghost use Rattle.host_trace.specs.Entries.{Enters, entry_of};
-    ghost use Rattle.real_world.specs.Reals.{untold, none_given, none_entered, limit_of};
+    ghost use Rattle.real_world.specs.Reals.{untold, none_given, none_entered, limit_of, IsEntered};
 
     type Out = RealOutside<R, T, K, L>;
 
@@ -173,6 +176,7 @@ impl<
         ensures count { IfOk result (λ outs. vec_len outs ≡ loops) }
         ensures told { IfOk result (λ outs. All (λ o. IsNew (none_given self.old) (untold o)) outs.items) }
         ensures limit { IfOk result (λ outs. All (λ o. limit_of o ≡ site.now.limits.children) outs.items) }
+        ensures fresh { IfOk result (λ outs. All (IsEntered mode) outs.items) }
         ensures out { OnOk result (self.new.out ≡ self.old.out + loops) }
         ensures entered { Enters (none_entered self.old) (entry_of mode site.now loops) (none_entered self.new) }
         ensures given { none_given self.new ≡ none_given self.old }

@@ -6,7 +6,7 @@ use Rattle.host_base.specs.Outsides.{Rose}
 use Rattle.host_base.specs.declared.launch.Peer.{Peer}
 use Rattle.host_trace.specs.declared.items.Event.{Event}
 use Rattle.host_trace.specs.declared.items.Event.TheVariants.{Accepted, ClientBytes, ClientEof, ClientGone, Wrote, Started, StartFailed, StartFull, ChildBytes, ChildEof, ChildBroken, Took, InputGone, Exited, WsText, WsBinary, WsClosed, WsBad, NoRoom, Tick, Stop}
-use Rattle.socket_set.specs.Clients.{ClientState, Moved, Rests, Says, Keeps, IsNewClient, IsDue, wanted_after}
+use Rattle.socket_set.specs.Clients.{ClientState, Moved, Rests, Says, Keeps, Notes, noted, IsNewClient, IsDue, wanted_after}
 use Rattle.socket_set.specs.Sockets.{SocketTells}
 use Rattle.std.proofs.lemmas.Bool.{cases_eq}
 use Rattle.std.specs.Option.{IsSome, IfSome}
@@ -25,6 +25,17 @@ moved_self r =
       shut = refl;
     }
 
+-- trouble moves no bytes
+moved_noted : (r : ClientState) (troubled : Bool) → Moved [] r (record r { troubled = troubled })
+moved_noted r troubled =
+    record { frames = []; sent = moves_self r.socket.taken r.outgoing; plain = λ _. refl; heard = λ _ _. Consumes-nil r.socket.left; upgraded = refl; shut = refl }
+
+-- what is known stays known
+noted_stays : (failed shut troubled : Bool) → troubled ≡ true → noted failed shut troubled ≡ true
+noted_stays true false troubled h = refl
+noted_stays true true troubled h = h
+noted_stays false shut troubled h = h
+
 pub moved_two : (bytes : List ℕ) (r m s : ClientState) → Moved [] r m → Moved bytes m s → Moved bytes r s
 moved_two bytes r m s g h =
     record {
@@ -37,11 +48,11 @@ moved_two bytes r m s g h =
     }
 
 pub rests_self : (r : ClientState) → Rests r r
-rests_self r = record { moved = moved_self r; wanted = refl; untold = refl }
+rests_self r = record { moved = moved_self r; wanted = refl; untold = refl; troubled = λ t. t }
 
 pub rests_two : (r m s : ClientState) → Rests r m → Rests m s → Rests r s
 rests_two r m s g h =
-    record { moved = moved_two [] r m s g.moved h.moved; wanted = h.wanted ∙ g.wanted; untold = h.untold ∙ g.untold }
+    record { moved = moved_two [] r m s g.moved h.moved; wanted = h.wanted ∙ g.wanted; untold = h.untold ∙ g.untold; troubled = λ t. h.troubled (g.troubled t) }
 
 due_two : (c : ℕ) (r m s : ClientState) (e : Event) → Rests r m → IsDue c m s e → IsDue c r s e
 due_two c r m s (ClientBytes d bytes) g h =
@@ -234,6 +245,27 @@ quiet_kept c a b h =
       rest = all_rest c (clients a) (clients b) (goes_kept (clients a c) (clients b c) h.one.client) h.one.others;
     }
 
+-- of one that was noted nothing was told
+rests_noted : (failed : Bool) (r s : ClientState) → Notes failed r s → Rests r s
+rests_noted failed r s h =
+    rw h record { moved = moved_noted r (noted failed r.shut r.troubled); wanted = refl; untold = refl; troubled = noted_stays failed r.shut r.troubled }
+
+goes_noted : (failed : Bool) (a b : Option ClientState) → OnClient (Notes failed) a b → Goes a b
+goes_noted failed None None h = tt
+goes_noted failed None (Some s) h = cc
+goes_noted failed (Some r) None h = absurd h
+goes_noted failed (Some r) (Some s) h = rests_noted failed r s h
+
+pub quiet_noted : (c : ℕ) (failed : Bool) (a b : SetState) → On c (Notes failed) a b → IsQuiet a b
+quiet_noted c failed a b h =
+    record {
+      counts = h.one.counts;
+      rest = all_rest c (clients a) (clients b) (goes_noted failed (clients a c) (clients b c) h.one.client) h.one.others;
+    }
+
+pub noted_devices : (c : ℕ) (failed : Bool) (a b : SetState) → On c (Notes failed) a b → SameDevices a b
+noted_devices c failed a b h = h.devices
+
 goes_gone : (a b : Option ClientState) → is_shut_at a ≡ true → b ≡ None → Goes a b
 goes_gone None b h e = rw e tt
 goes_gone (Some r) b h e = rw e h
@@ -262,6 +294,7 @@ accepted_told peer t n s a b d on same new e h =
           nothing_untold = new.nothing_untold;
           unasked = new.unasked;
           plain = new.plain;
+          untroubled = new.untroubled;
           not_shut = new.not_shut;
         };
         others = λ c apart. subst (λ x. Goes (clients a c) x) (sym (h.others c (λ z. apart (z ∙ same.counts.accepted)) ∙ clients_same c)) (goes_self (clients a c));

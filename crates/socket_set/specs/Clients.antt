@@ -1,5 +1,5 @@
 -- What the set holds of each client, and what an event says of it.
-use Rattle.std.specs.Prelude.{◌≡◌, ℕ, ◌≤◌, ◌<◌, ◌+◌, ◌-◌, ◌^◌, ◌⊎◌, min, Bool, true, false, List, [], ◌++◌, length, Option, Some, None}
+use Rattle.std.specs.Prelude.{◌≡◌, ℕ, ◌≤◌, ◌<◌, ◌+◌, ◌-◌, ◌^◌, ◌⊎◌, min, Bool, true, false, not, ◌&&◌, if◌then◌else◌, List, [], ◌++◌, length, Option, Some, None}
 use Rattle.std.specs.Io.KnownBytes.{Consumes, IsAtEnd}
 use Rattle.host_trace.specs.declared.items.Event.{Event}
 use Rattle.host_trace.specs.declared.items.Event.TheVariants.{ClientBytes, ClientEof, ClientGone, Wrote, WsText, WsBinary, WsClosed, WsBad, NoRoom}
@@ -18,6 +18,8 @@ pub record ClientState : Type 0 where
   -- one event of it is asked for
   pub wanted : Bool
   pub upgraded : Bool
+  -- that it failed, or that there was no room, is to be told before all else
+  pub troubled : Bool
   -- it is over, and what waits is still sent
   pub shut : Bool
 
@@ -26,9 +28,9 @@ abbrev pub wanted_after : Event → Bool → Bool
 wanted_after (Wrote c n) wanted = wanted
 wanted_after _ wanted = false
 
-abbrev pub state_of : SocketTells → List ℕ → ℕ → Bool → Bool → Bool → ClientState
-state_of socket outgoing untold wanted upgraded shut =
-    record { socket = socket; outgoing = outgoing; untold = untold; wanted = wanted; upgraded = upgraded; shut = shut }
+abbrev pub state_of : SocketTells → List ℕ → ℕ → Bool → Bool → Bool → Bool → ClientState
+state_of socket outgoing untold wanted upgraded troubled shut =
+    record { socket = socket; outgoing = outgoing; untold = untold; wanted = wanted; upgraded = upgraded; troubled = troubled; shut = shut }
 
 -- Its bytes moved on: what waited went to its socket in order, with frames of a WebSocket's own behind it; and of
 -- its own bytes these were heard.
@@ -45,6 +47,7 @@ pub record Rests (r s : ClientState) : Type 0 where
   pub moved : Moved [] r s
   pub wanted : s.wanted ≡ r.wanted
   pub untold : s.untold ≡ r.untold
+  pub troubled : r.troubled ≡ true → s.troubled ≡ true
 
 -- the event is of client c, and its cause
 abbrev pub IsDue : ℕ → ClientState → ClientState → Event → Type 0
@@ -76,6 +79,7 @@ pub record HasMuch (s : ClientState) : Type 0 where
 -- Nothing is to be told of it: where bytes wait its socket took none of them, and where an event is asked for its
 -- socket found that nothing has come.
 pub record IsStill (s : ClientState) : Type 0 where
+  pub untroubled : s.troubled ≡ false
   pub room : 0 < length s.outgoing → s.socket.full ≡ true
   pub bytes : s.wanted ≡ true → (s.socket.dry ≡ true) ⊎ HasMuch s
 
@@ -89,6 +93,7 @@ pub record IsNewClient (socket : SocketTells) (s : ClientState) : Type 0 where
   pub nothing_untold : s.untold ≡ 0
   pub unasked : s.wanted ≡ false
   pub plain : s.upgraded ≡ false
+  pub untroubled : s.troubled ≡ false
   pub not_shut : s.shut ≡ false
 
 -- ---- what the acts do to it
@@ -119,10 +124,22 @@ pub record Frames (said : ℕ) (r s : ClientState) : Type 0 where
   pub plain : r.upgraded ≡ false → frames ≡ []
   pub least : r.untold ≤ s.untold
   pub most : s.untold ≤ r.untold + said
-  pub same : s ≡ record r { outgoing = s.outgoing; untold = s.untold }
+  pub troubled : r.troubled ≡ true → s.troubled ≡ true
+  pub same : s ≡ record r { outgoing = s.outgoing; untold = s.untold; troubled = s.troubled }
 
 abbrev pub Shuts : ClientState → ClientState → Type 0
 Shuts r s = s ≡ record r { shut = true }
+
+-- it was reported to be ready or, before it was shut, to have failed
+abbrev pub noted : Bool → Bool → Bool → Bool
+noted failed shut troubled = if failed && not shut then true else troubled
+
+abbrev pub Notes : Bool → ClientState → ClientState → Type 0
+Notes failed r s = s ≡ record r { troubled = noted failed r.shut r.troubled }
+
+-- it is in trouble
+abbrev pub Fails : ClientState → ClientState → Type 0
+Fails r s = s ≡ record r { troubled = true }
 
 abbrev pub SameButUntold : ClientState → ClientState → Type 0
 SameButUntold r s = s ≡ record r { untold = s.untold }

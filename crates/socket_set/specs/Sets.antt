@@ -70,6 +70,7 @@ pub record IsFresh (s : ClientState) : Type 0 where
   pub nothing_untold : s.untold ≡ 0
   pub unasked : s.wanted ≡ false
   pub plain : s.upgraded ≡ false
+  pub untroubled : s.troubled ≡ false
   pub not_shut : s.shut ≡ false
 
 -- client c is new, and the others rest

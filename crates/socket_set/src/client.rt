@@ -60,12 +60,12 @@ pub(crate) enum Due {
 }
 
 impl<S: Socket> Model for Client<S> {
-    ghost use Rattle.std.specs.Prelude.{◌≡◌, IsSome, true, false};
+    ghost use Rattle.std.specs.Prelude.{◌≡◌, IsSome, is_some, true, false};
     ghost use Rattle.socket_set.specs.Clients.{ClientState, state_of};
 
     ghost Value = { ClientState };
 
-    ghost view = { λ r. state_of (S.tells r.socket) r.outgoing r.untold r.wanted r.upgraded r.shut };
+    ghost view = { λ r. state_of (S.tells r.socket) r.outgoing r.untold r.wanted r.upgraded (is_some r.trouble) r.shut };
 
     ghost invariant = { λ r.
         (IsSome r.link → r.upgraded ≡ true)
@@ -76,7 +76,7 @@ impl<S: Socket> Model for Client<S> {
 impl<S: Socket> Client<S> {
     ghost use Rattle.std.specs.Prelude.{◌≡◌, ◌++◌, ◌+◌, ◌-◌, ◌^◌, ◌≤◌, ◌<◌, ◌==◌, [], true, false, None, min, length, sum_by, IfSome, IsNone, OnOk, OnErr};
     ghost use Rattle.socket_set.specs.Devices.{FailsUnless};
-    ghost use Rattle.socket_set.specs.Clients.{Rests, Says, CountsFaults, UnlessShut, IsNewClient, Writes, Upgrades, Frames, Shuts, WantsMore, SameButUntold, IsUnwanted, SaysMessage, IsStill, IsStillOrShut, HasMuch};
+    ghost use Rattle.socket_set.specs.Clients.{Rests, Says, CountsFaults, UnlessShut, IsNewClient, Writes, Upgrades, Frames, Shuts, WantsMore, SameButUntold, IsUnwanted, Notes, Fails, SaysMessage, IsStill, IsStillOrShut, HasMuch};
 
     /// A client of which nothing was heard.
     pub fn new(alloc: Global, socket: S) -> Self
@@ -188,7 +188,7 @@ impl<S: Socket> Client<S> {
 
     // The link is of no use any more, and this is told next.
     fn fail(&mut self, trouble: Trouble)
-        ensures { self.new ≡ self.old }
+        ensures { Fails self.old self.new }
     {
         self.link = None;
         self.trouble = Some(trouble);
@@ -217,7 +217,7 @@ impl<S: Socket> Client<S> {
 
     /// It was reported that its socket may have bytes or room for them, or that it failed.
     pub fn note(&mut self, failed: bool)
-        ensures { self.new ≡ self.old }
+        ensures { Notes failed self.old self.new }
     {
         self.may_receive = true;
         self.may_send = true;
@@ -424,6 +424,7 @@ impl<S: Socket> Client<S> {
         ensures buffer { length buffer.new ≡ length buffer.old }
         ensures some { IfSome result (Says c self.old self.new) }
         ensures none { IsNone result → Rests self.old self.new }
+        ensures untroubled { IsNone result → self.old.troubled ≡ false }
     {
         if let Some(trouble) = self.trouble {
             return Some(self.say_trouble(c, trouble));

@@ -13,6 +13,3 @@ pub use outgoing::Outgoing;
 pub use ports::{Arrival, Ports, Ready};
 pub use set::{Polled, SocketSet};
 pub use socket::{Received, Sent, Socket};
-
-#[cfg(test)]
-mod tests;

@@ -37,6 +37,10 @@ pub trait Ports {
     fn accept(&mut self) -> Arrival<Self::Socket>
         ensures { FailsUnless (is_answered result) (tells self.old) (tells self.new) };
 
+    /// No further client comes: the listening socket is let go, and once all who share it have done so its address is free.
+    fn end_listening(&mut self)
+        ensures { tells self.new ≡ tells self.old };
+
     /// Has the wait report the socket of client `c` once it has bytes or fails, and where `room` once it has room
     /// for bytes. It answers whether that could be done.
     fn watch(&mut self, socket: &mut Self::Socket, c: u64, room: bool) -> bool

@@ -61,7 +61,7 @@ impl<P: Ports + Drop> SocketSet<P> {
     ghost use Rattle.std.specs.Prelude.{◌≡◌, ◌+◌, ◌-◌, ◌^◌, ◌<◌, true, false, [], None, All, IfOk, IfSome, IsSome, IsNone, OnOk, OnErr, length, sum_by};
     ghost use Rattle.host_base.specs.Outsides.{Rose};
     ghost use Rattle.host_trace.specs.Told.{is_failure};
-    ghost use Rattle.socket_set.specs.Clients.{Says, Rests, UnlessShut, Keeps, WantsMore, Writes, Upgrades, Frames, Shuts, IsStillOrShut, has_failed};
+    ghost use Rattle.socket_set.specs.Clients.{Says, Rests, UnlessShut, Keeps, Notes, WantsMore, Writes, Upgrades, Frames, Shuts, IsStillOrShut, has_failed};
     ghost use Rattle.socket_set.specs.Sets.{SetState, Tells, IsQuiet, IsIdle, OwesNoTick, told_by, Counted, OnOne, On, Inserts, Leaves, SameDevices, SameClients, Acts, is_shut_at, is_open_at, clients};
 
     /// A set of no client yet, with room for `most`, those that were shut among them.
@@ -547,7 +547,7 @@ impl<P: Ports + Drop> SocketSet<P> {
         self.ports.ready()
     }
 
-    #[tactic(auto, using(crate::proofs::Sets::quiet_kept, crate::proofs::Sets::quiet_self, crate::proofs::Sets::devices_self, crate::proofs::Sets::kept_devices))]
+    #[tactic(auto, using(crate::proofs::Sets::quiet_noted, crate::proofs::Sets::quiet_self, crate::proofs::Sets::devices_self, crate::proofs::Sets::noted_devices))]
     fn note(&mut self, ready: Ready)
         ensures quiet { IsQuiet self.old self.new }
         ensures same { SameDevices self.old self.new }
@@ -560,7 +560,7 @@ impl<P: Ports + Drop> SocketSet<P> {
 
     // One that is gone may still be reported.
     fn note_client(&mut self, c: u64, failed: bool)
-        ensures { On c Keeps self.old self.new }
+        ensures { On c (Notes failed) self.old self.new }
     {
         if let Some(client) = self.clients.get_mut(&c) {
             client.note(failed);
@@ -650,6 +650,7 @@ impl<P: Ports + Drop> SocketSet<P> {
         ensures { self.new ≡ record self.old { listening = false } }
     {
         self.ended = true;
+        self.ports.end_listening();
     }
 
     /// Client c was accepted and not shut.

@@ -17,6 +17,7 @@ use Rattle.std_spawner.specs.contracts.pipes.BelledPipe as BelledPipe
 use Rattle.std_spawner.specs.contracts.pipes.ChildInput as ChildInput
 use Rattle.std_spawner.specs.contracts.job.Pump as Pump
 use Rattle.std_spawner.specs.contracts.job.PumpJob as PumpJob
+use Rattle.std_spawner.specs.contracts.program.Program as Program
 use Rattle.std_spawner.specs.contracts.input.Held as Held
 use Rattle.std_spawner.specs.contracts.input.Running as Running
 use Rattle.std_spawner.specs.contracts.input.Input as Input
@@ -63,8 +64,11 @@ idle_send T s = search (sendable, crosses, worker.the_field_send, job_send) dept
 pool_send : (T : RattleType) → IsSend T → IsSend (ThreadPool.the_field T).row
 pool_send T s = search (sendable, crosses, idle_send) depth 20
 
+program_send : IsSend Program.the_field.row
+program_send = search (sendable, crosses) depth 20
+
 pub kid_send : (R T : RattleType) → IsSend R → IsSend T → IsSend (StdKid.the_field R T).row
-kid_send R T s t = search (sendable, crosses, out_pump_send, belled_send, busy.the_field_send, job_send, kid_input_send, pool_send) depth 20
+kid_send R T s t = search (sendable, crosses, out_pump_send, belled_send, busy.the_field_send, job_send, kid_input_send, program_send, feed_ring_send, pool_send) depth 40 fits 20000
 
 pub spawner_send : (R T : RattleType) → IsSend R → IsSend T → IsSend (StdSpawner.the_field R T).row
 spawner_send R T s t = search (sendable, crosses, bell_send, busy.the_field_send, job_send, pool_send) depth 20

@@ -1,31 +1,39 @@
 -- What a real child tells of itself.
 use Rattle.std.specs.Prelude.{◌≡◌, ◌≤◌, None, false}
 use Rattle.pipe_pump.specs.declared.from_pipe.PumpRing.{PumpRing}
+use Rattle.pipe_pump.specs.declared.feed_ring.FeedRing.{FeedRing}
+use Rattle.host_base.specs.declared.launch.Launch.{Launch}
 use Rattle.pump_pool.specs.Pumps.{ring_of}
+use Rattle.std_spawner.specs.Programs.{launch_of}
 use Rattle.child_edge.specs.Kids.{KidTells}
 use Rattle.std_spawner.specs.declared.kid.StdKid.{StdKid}
 
 abbrev pub kid_tells : {R T : Type 0} → StdKid R T → KidTells
 kid_tells kid =
     record {
+      launch = launch_of kid.program;
       ring = ring_of kid.output;
+      feed = kid.feed.value;
       out_end = kid.out_end;
       in_end = kid.in_end;
       reaped = kid.reaped;
+      kills = kid.kills;
       faults = kid.faults;
       out_looks = kid.out_looks;
       in_looks = kid.in_looks;
       reap_looks = kid.reap_looks;
     }
 
--- it was just started
-pub record IsNewStdKid {R T : Type 0} (ring : PumpRing) (kid : StdKid R T) : Type 0 where
+-- it was just started by this launch, on these rings
+pub record IsNewStdKid {R T : Type 0} (launch : Launch) (ring : PumpRing) (feed : FeedRing) (kid : StdKid R T) : Type 0 where
+  pub of_launch : launch_of kid.program ≡ launch
   pub of_ring : ring_of kid.output ≡ ring
+  pub of_feed : kid.feed.value ≡ feed
   pub out_open : kid.out_end ≡ None
   pub in_open : kid.in_end ≡ None
   pub running : kid.reaped ≡ false
 
--- its input and what failed of it may have changed, and nothing else
+-- what failed of it may have changed, and nothing else that it tells; nor the ring of its input
 pub record SameButInput {R T : Type 0} (old new : StdKid R T) : Type 0 where
   pub count : old.faults ≤ new.faults
-  pub rest : new ≡ record old { input = new.input; faults = new.faults }
+  pub rest : kid_tells new ≡ record (kid_tells old) { faults = new.faults }

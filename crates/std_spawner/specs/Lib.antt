@@ -1,2 +1,6 @@
 pub mod Commands
+pub mod Programs
+pub mod Inputs
+pub mod Paces
+pub mod Threads
 pub mod Kids

@@ -1,13 +1,10 @@
-// The program of a launch.
+// The command of a launch.
 ghost use Rattle.std.specs.Prelude.{◌≡◌, ◌∷◌, [], IfOk, OnOk};
 ghost use Rattle.std_spawner.specs.Commands.{AddsWords, SetsPairs, Runs};
 
-use child_edge::SpawnFault;
 use host_base::{Launch, Pair, Text};
 use std::alloc::{AllocError, Global};
-use std::io;
-use std::io::ErrorKind;
-use std::process::{Child, Command, Processes, Stdio, SystemProcess};
+use std::process::{Command, Stdio};
 
 fn add_word(command: &mut Command, word: &str) -> Result<(), AllocError>
     ensures { OnOk result (AddsWords command.old command.new (word.now ∷ [])) }
@@ -54,25 +51,4 @@ pub fn command(alloc: Global, launch: &Launch) -> Result<Command, AllocError>
     command.stdout(Stdio::piped());
     command.stderr(Stdio::inherit());
     Ok(command)
-}
-
-fn try_spawn<R: Processes<Started = SystemProcess>>(
-    rt: &R,
-    alloc: Global,
-    launch: &Launch,
-) -> io::Result<Child<SystemProcess>> {
-    command(alloc, launch)?.spawn(rt)
-}
-
-/// Starts the program of a launch, with pipes at its input and its output.
-pub fn spawn<R: Processes<Started = SystemProcess>>(
-    rt: &R,
-    alloc: Global,
-    launch: &Launch,
-) -> Result<Child<SystemProcess>, SpawnFault> {
-    match try_spawn(rt, alloc, launch) {
-        Ok(process) => Ok(process),
-        Err(error) if error.kind() == ErrorKind::OutOfMemory => Err(SpawnFault::NoMemory),
-        Err(_) => Err(SpawnFault::Failed),
-    }
 }

@@ -1,5 +1,7 @@
 // The pump of a child's input, which gets its thread once it has something to move.
-ghost use Rattle.pipe_pump.specs.Rings.{IsFreshFeed};
+ghost use Rattle.std.specs.Prelude.{◌≡◌};
+ghost use Rattle.pipe_pump.specs.Rings.{IsFreshFeed, SameFeedRing};
+ghost use Rattle.pump_pool.specs.Pumps.{feed_of};
 
 use super::job::{Pump, PumpJob};
 use super::pipes::ChildInput;
@@ -9,6 +11,7 @@ use loop_bell::Bell;
 use pipe_pump::{FeedLook, FeedRing, PumpDone, pump_in};
 use pump_pool::{Busy, InHands, InPump, Worker};
 use std::mem;
+use std::snapshot::Snapshot;
 use std::sync::Wait;
 
 /// A pump that has nothing to move yet.
@@ -18,21 +21,27 @@ pub(crate) struct Held {
     feed: FeedRing,
     hands: InHands<ChildInput>,
     bell: Bell,
+    /// The ring as it was given.
+    mark: Snapshot<FeedRing>,
     ghost fresh: { IsFreshFeed feed },
+    ghost same: { SameFeedRing mark.value feed },
 }
 
 impl Held {
     ghost use Rattle.std.specs.Prelude.{◌≡◌};
     ghost use Rattle.pipe_pump.specs.Rings.{IsFreshFeed};
     ghost use Rattle.pump_pool.specs.Pumps.{feed_of, input_of};
+    ghost use Rattle.std_spawner.specs.Inputs.{IsInputEnd};
 
     pub fn new(pipe: ChildInput, feed: FeedRing, hands: InHands<ChildInput>, bell: Bell) -> Self
         requires { IsFreshFeed feed }
         ensures pipe { result.pipe ≡ pipe }
         ensures feed { result.feed ≡ feed }
+        ensures mark { result.mark.value ≡ feed }
     {
         Held {
             pipe,
+            mark: Snapshot::of(&feed),
             feed,
             hands,
             bell,
@@ -40,29 +49,36 @@ impl Held {
     }
 
     // Runs it at once: its feed was ended and nothing is left of it.
-    fn run_here<R: Wait>(self, rt: &R) -> PumpDone<ChildInput> {
+    #[tactic(auto, using(crate::proofs::Given::end_of))]
+    fn run_here<R: Wait>(self, rt: &R) -> PumpDone<ChildInput>
+        ensures { IsInputEnd self.mark.value result }
+    {
         let Held {
             pipe,
             feed,
             hands: _,
             bell: _,
+            mark: _,
         } = self;
         pump_in(rt, feed, pipe)
     }
 
     // Gives it to a thread.
     fn run_there(self, thread: Worker<PumpJob>) -> Running
-        ensures { (feed_of result.pump ≡ self.feed) × (input_of result.pump ≡ self.pipe) }
+        ensures pump { (feed_of result.pump ≡ self.feed) × (input_of result.pump ≡ self.pipe) }
+        ensures mark { result.mark ≡ self.mark }
     {
         let Held {
             pipe,
             feed,
             hands,
             bell,
+            mark,
         } = self;
         let (job, pump) = hands.pump(pipe, feed);
         Running {
             pump,
+            mark,
             thread: thread.give(PumpJob::new(Pump::Input(job), bell)),
         }
     }
@@ -73,6 +89,8 @@ impl Held {
 pub(crate) struct Running {
     pump: InPump<ChildInput>,
     thread: Busy<PumpJob>,
+    mark: Snapshot<FeedRing>,
+    ghost same: { SameFeedRing mark.value (feed_of pump) },
 }
 
 /// Where the pump is.
@@ -85,13 +103,20 @@ pub(crate) enum Input {
 }
 
 impl Input {
+    ghost use Rattle.std.specs.Prelude.{◌≡◌, Some, None, IfOk, IfSome};
+    ghost use Rattle.std_spawner.specs.Inputs.{feed_mark, IsInputEnd, IsInputEndOf};
+    ghost use Rattle.pipe_pump.specs.declared.feed_ring.FeedRing.{FeedRing};
+
     /// What the pump left, once it has ended, and only once. It doesn't wait. Where there is something to move and no
     /// thread for it, that is told, and tried again at the next look.
     pub fn done<R: Wait, T: StartThread + Drop>(
         &mut self,
         rt: &R,
         threads: &ThreadPool<T>,
-    ) -> Result<Option<PumpDone<ChildInput>>, SpawnFault> {
+    ) -> Result<Option<PumpDone<ChildInput>>, SpawnFault>
+        ensures end { IfOk result (λ done. IfSome done (IsInputEndOf (feed_mark self.old))) }
+        ensures mark { (f : FeedRing) → feed_mark self.new ≡ Some f → feed_mark self.old ≡ Some f }
+    {
         match mem::replace(self, Input::Ended(None)) {
             Input::Held(held) => self.look(rt, threads, held),
             Input::Running(running) => Ok(self.end(running)),
@@ -102,12 +127,17 @@ impl Input {
         }
     }
 
+    #[tactic(auto, using(crate::proofs::Given::marked, crate::proofs::Given::unmarked))]
     fn look<R: Wait, T: StartThread + Drop>(
         &mut self,
         rt: &R,
         threads: &ThreadPool<T>,
         held: Held,
-    ) -> Result<Option<PumpDone<ChildInput>>, SpawnFault> {
+    ) -> Result<Option<PumpDone<ChildInput>>, SpawnFault>
+        requires { feed_mark self.old ≡ None }
+        ensures end { IfOk result (λ done. IfSome done (IsInputEnd held.mark.value)) }
+        ensures mark { (f : FeedRing) → feed_mark self.new ≡ Some f → held.mark.value ≡ f }
+    {
         let mut held = held;
         match held.feed.look() {
             FeedLook::Nothing => {
@@ -127,7 +157,9 @@ impl Input {
         &mut self,
         thread: Result<Worker<PumpJob>, SpawnFault>,
         held: Held,
-    ) -> Result<(), SpawnFault> {
+    ) -> Result<(), SpawnFault>
+        ensures { feed_mark self.new ≡ Some held.mark.value }
+    {
         match thread {
             Ok(thread) => {
                 *self = Input::Running(held.run_there(thread));
@@ -140,8 +172,12 @@ impl Input {
         }
     }
 
-    fn end(&mut self, running: Running) -> Option<PumpDone<ChildInput>> {
-        let Running { pump, thread } = running;
+    #[tactic(auto, using(crate::proofs::Given::pumped_end))]
+    fn end(&mut self, running: Running) -> Option<PumpDone<ChildInput>>
+        ensures end { IfSome result (IsInputEnd running.mark.value) }
+        ensures mark { (f : FeedRing) → feed_mark self.new ≡ Some f → running.mark.value ≡ f }
+    {
+        let Running { pump, thread, mark } = running;
         let mut pump = pump;
         match pump.done() {
             Some(done) => {
@@ -149,7 +185,7 @@ impl Input {
                 Some(done)
             }
             None => {
-                *self = Input::Running(Running { pump, thread });
+                *self = Input::Running(Running { pump, thread, mark });
                 None
             }
         }

@@ -1,18 +1,20 @@
 // A real child.
-ghost use Rattle.std.specs.Prelude.{◌≡◌, true, is_some};
-ghost use Rattle.std.specs.Process.{child_status};
+ghost use Rattle.std.specs.Prelude.{◌≡◌, true, Some};
 ghost use Rattle.host_base.specs.Outsides.{Rose};
 ghost use Rattle.child_edge.specs.Kids.{is_failed};
+ghost use Rattle.std_spawner.specs.Inputs.{feed_mark};
+ghost use Rattle.std_spawner.specs.Programs.{has_ended};
 
 use super::input::Input;
 use super::job::PumpJob;
 use super::pace::Pace;
 use super::pipes::{ChildInput, ChildOutput};
+use super::program::Program;
 use super::threads::{StartThread, ThreadPool};
 use child_edge::{Kid, Reap, SpawnFault};
-use pipe_pump::{PumpDone, PumpEnd};
+use pipe_pump::{FeedRing, PumpDone, PumpEnd};
 use pump_pool::{Busy, OutPump, Worker};
-use std::process::{Child, SystemProcess};
+use std::snapshot::Snapshot;
 use std::sync::Wait;
 use std::time::Clock;
 
@@ -21,22 +23,26 @@ use std::time::Clock;
 pub struct StdKid<R, T> {
     rt: R,
     threads: ThreadPool<T>,
-    process: Child<SystemProcess>,
+    program: Program,
     output: OutPump<ChildOutput>,
     output_thread: Busy<PumpJob>,
+    /// The ring that the pump of its input was given.
+    feed: Snapshot<FeedRing>,
     input: Input,
     /// How each pump ended, once that was given.
     out_end: Option<PumpEnd>,
     in_end: Option<PumpEnd>,
     pace: Pace,
     reaped: bool,
+    kills: u64,
     faults: u64,
     /// How often each was asked for.
     out_looks: u64,
     in_looks: u64,
     reap_looks: u64,
     /// Of a program that was reaped the system told how it ended.
-    ghost told: { reaped ≡ true → is_some (child_status process) ≡ true },
+    ghost told: { reaped ≡ true → has_ended program ≡ true },
+    ghost fed: { (f : _) → feed_mark input ≡ Some f → f ≡ feed.value },
 }
 
 fn one_more(count: u64) -> u64
@@ -91,7 +97,8 @@ impl<R: Wait + Clock, T: StartThread + Drop> Kid for StdKid<R, T> {
     }
 
     fn kill(&mut self) {
-        if self.process.kill().is_err() {
+        self.kills = one_more(self.kills);
+        if !self.program.kill() {
             self.faults = one_more(self.faults);
         }
         self.pace.leave();
@@ -105,12 +112,12 @@ impl<R: Wait + Clock, T: StartThread + Drop> Kid for StdKid<R, T> {
         if !self.pace.is_due(&self.rt) {
             return Reap::Running;
         }
-        match self.process.try_wait() {
-            Ok(Some(_)) => {
+        match self.program.has_exited() {
+            Ok(true) => {
                 self.reaped = true;
                 Reap::Exited
             }
-            Ok(None) => Reap::Running,
+            Ok(false) => Reap::Running,
             Err(_) => {
                 self.faults = one_more(self.faults);
                 Reap::Failed
@@ -123,28 +130,36 @@ impl<R, T> StdKid<R, T> {
     ghost use Rattle.std.specs.Prelude.{◌≡◌};
     ghost use Rattle.pump_pool.specs.Pumps.{ring_of};
     ghost use Rattle.std_spawner.specs.Kids.{IsNewStdKid};
+    ghost use Rattle.std_spawner.specs.Programs.{launch_of};
+    ghost use Rattle.std_spawner.specs.Inputs.{feed_mark};
 
+    /// `feed` is the ring of its input.
+    #[tactic(auto, using(crate::proofs::Given::marked))]
     pub(crate) fn new(
         rt: R,
         threads: ThreadPool<T>,
-        process: Child<SystemProcess>,
+        program: Program,
         output: OutPump<ChildOutput>,
         output_thread: Busy<PumpJob>,
+        feed: Snapshot<FeedRing>,
         input: Input,
     ) -> Self
-        ensures { IsNewStdKid (ring_of output) result }
+        requires { feed_mark input ≡ Some feed.value }
+        ensures { IsNewStdKid (launch_of program) (ring_of output) feed.value result }
     {
         StdKid {
             rt,
             threads,
-            process,
+            program,
             output,
             output_thread,
+            feed,
             input,
             out_end: None,
             in_end: None,
             pace: Pace::new(),
             reaped: false,
+            kills: 0,
             faults: 0,
             out_looks: 0,
             in_looks: 0,
@@ -154,11 +169,15 @@ impl<R, T> StdKid<R, T> {
 }
 
 impl<R: Wait, T: StartThread + Drop> StdKid<R, T> {
+    ghost use Rattle.std.specs.Prelude.{IfSome};
     ghost use Rattle.std_spawner.specs.Kids.{SameButInput};
+    ghost use Rattle.std_spawner.specs.Inputs.{IsInputEnd};
 
     // Looks at the pump of its input. That no thread was to be had for it is counted.
+    #[tactic(auto, using(crate::proofs::Given::input_end_if))]
     fn look_input(&mut self) -> Option<PumpDone<ChildInput>>
         ensures same { SameButInput self.old self.new }
+        ensures end { IfSome result (IsInputEnd self.old.feed.value) }
     {
         match self.input.done(&self.rt, &self.threads) {
             Ok(done) => done,
@@ -179,7 +198,7 @@ impl<R: Wait + Clock + Drop, T: StartThread + Drop> StdKid<R, T> {
         ensures { result ≡ self.new.reaped }
     {
         if !self.reaped {
-            self.reaped = end_process(&mut self.process);
+            self.reaped = self.program.end();
         }
         self.reaped
     }
@@ -192,14 +211,16 @@ impl<R: Wait + Clock + Drop, T: StartThread + Drop> StdKid<R, T> {
         let StdKid {
             rt,
             threads,
-            process: _,
+            program: _,
             output: _,
             output_thread,
+            feed: _,
             input,
             out_end,
             in_end: _,
             pace: _,
             reaped: _,
+            kills: _,
             faults: _,
             out_looks: _,
             in_looks: _,
@@ -220,12 +241,4 @@ fn give_one<R: Wait, T: StartThread + Drop>(
     if let Some(thread) = thread {
         threads.put(rt, thread);
     }
-}
-
-/// Kills and reaps a program, and answers whether it is gone then.
-pub(crate) fn end_process(process: &mut Child<SystemProcess>) -> bool
-    ensures { result ≡ true → is_some (child_status process.new) ≡ true }
-{
-    let _ = process.kill();
-    process.wait().is_ok()
 }

@@ -7,9 +7,8 @@ mod job;
 mod kid;
 mod pace;
 mod pipes;
+mod program;
 mod spawner;
-#[cfg(test)]
-mod tests;
 mod threads;
 
 pub use job::PumpJob;

@@ -1,4 +1,9 @@
 // When a child is asked for its exit.
+ghost use Rattle.std.specs.Prelude.{◌≡◌, ◌-◌, ◌<◌, true, false, not, nat_lt};
+ghost use Rattle.std.specs.Duration.{as_nanos, max_nanos};
+ghost use Rattle.std_spawner.specs.Paces.{at_work, left_after, asked_at};
+
+use std::marker::Model;
 use std::time::{Clock, Duration};
 
 // How often a child that is to leave is asked with no distance. A small program closes its output some tens of
@@ -23,8 +28,23 @@ pub struct Pace {
     next: Duration,
 }
 
+impl Model for Pace {
+    ghost use Rattle.std.specs.Prelude.{◌≤◌};
+    ghost use Rattle.std.specs.Duration.{as_nanos};
+    ghost use Rattle.std_spawner.specs.Paces.{PaceState};
+
+    ghost Value = { PaceState };
+
+    ghost view = { λ p. record { leaving = p.is_leaving; soon = p.soon; distance = p.distance; next = as_nanos p.next } };
+
+    ghost invariant = { λ p. p.distance ≤ 100000 };
+}
+
 impl Pace {
-    pub fn new() -> Self {
+    /// That of a child at work.
+    pub fn new() -> Self
+        ensures { result ≡ at_work }
+    {
         Pace {
             is_leaving: false,
             soon: 0,
@@ -34,7 +54,9 @@ impl Pace {
     }
 
     /// The child is to leave.
-    pub fn leave(&mut self) {
+    pub fn leave(&mut self)
+        ensures { self.new ≡ left_after self.old }
+    {
         if !self.is_leaving {
             self.is_leaving = true;
             self.soon = SOON;
@@ -44,19 +66,30 @@ impl Pace {
     }
 
     /// Whether it is to be asked now. Where the clock doesn't tell, it is.
-    pub fn is_due<R: Clock>(&mut self, rt: &R) -> bool {
+    pub fn is_due<R: Clock>(&mut self, rt: &R) -> bool
+        ensures soon { 0 < self.old.soon → (result ≡ true) × (self.new ≡ record self.old { soon = self.old.soon - 1 }) }
+        ensures early { result ≡ false → self.new ≡ self.old }
+    {
         if self.soon > 0 {
             self.soon -= 1;
             return true;
         }
-        let Ok(now) = rt.monotonic() else {
-            return true;
-        };
-        if now < self.next {
+        match rt.monotonic() {
+            Ok(now) => self.is_due_at(now),
+            Err(_) => true,
+        }
+    }
+
+    // Whether it is to be asked at this time.
+    fn is_due_at(&mut self, now: Duration) -> bool
+        ensures due { result ≡ not (nat_lt (as_nanos now) self.old.next) }
+        ensures pace { self.new ≡ asked_at max_nanos (as_nanos now) self.old }
+    {
+        if now.checked_sub(self.next).is_none() {
             return false;
         }
         self.next = now.saturating_add(Duration::from_micros(self.distance));
-        self.distance = self.distance.saturating_mul(2).min(MOST);
+        self.distance = (self.distance * 2).min(MOST);
         true
     }
 }

@@ -95,11 +95,13 @@ impl ChildInput {
 }
 
 impl PipeOut for ChildInput {
-    ghost use Rattle.std.specs.Prelude.{None};
+    ghost use Rattle.std.specs.Prelude.{None, is_none};
 
     ghost taken = { λ _. None };
 
     ghost faults = { λ pipe. pipe.faults };
+
+    ghost closed = { λ pipe. is_none pipe.pipe };
 
     fn write(&mut self, from: &[u8]) -> PipeWrite {
         if from.is_empty() {

@@ -2,12 +2,13 @@
 ghost use Rattle.std.specs.Prelude.{◌≡◌, IfOk};
 ghost use Rattle.pipe_pump.specs.Rings.{IsFreshRing, IsFreshFeed};
 ghost use Rattle.std_spawner.specs.Kids.{IsNewStdKid};
+ghost use Rattle.std_spawner.specs.Programs.{launch_of};
 
-use super::command::spawn;
 use super::input::{Held, Input};
 use super::job::{Pump, PumpJob};
-use super::kid::{StdKid, end_process};
+use super::kid::StdKid;
 use super::pipes::{ChildInput, ChildOutput, StandardInput};
+use super::program::Program;
 use super::threads::{StartThread, ThreadPool};
 use child_edge::{SpawnFault, Spawner};
 use host_base::{Launch, NoMemory};
@@ -16,7 +17,8 @@ use pipe_pump::{FeedRing, PumpRing};
 use pump_pool::{Busy, InHands, OutHands, OutPump, Worker};
 use std::alloc::Global;
 use std::io::Stdin;
-use std::process::{Child, ChildStdin, ChildStdout, Processes, SystemProcess};
+use std::process::{Processes, SystemProcess};
+use std::snapshot::Snapshot;
 use std::sync::Wait;
 use std::time::Clock;
 
@@ -43,6 +45,8 @@ pub struct StdSpawner<R, T> {
     /// The thread of the pump of standard input, if there is one.
     client: Option<Busy<PumpJob>>,
     faults: u64,
+    /// How many kids it took back.
+    taken: u64,
 }
 
 impl<R: Drop, T: StartThread + Drop> StdSpawner<R, T> {
@@ -57,6 +61,7 @@ impl<R: Drop, T: StartThread + Drop> StdSpawner<R, T> {
             threads: ThreadPool::new(alloc, starter, idle)?,
             client: None,
             faults: 0,
+            taken: 0,
         })
     }
 
@@ -156,17 +161,6 @@ impl<R: Wait + Drop, T: StartThread + Drop> StdSpawner<R, T> {
     }
 }
 
-// Its pipes. A program without one is of no use, and is ended.
-fn take_pipes(process: &mut Child<SystemProcess>) -> Result<(ChildStdin, ChildStdout), SpawnFault> {
-    match (process.stdin.take(), process.stdout.take()) {
-        (Some(input), Some(output)) => Ok((input, output)),
-        _ => {
-            end_process(process);
-            Err(SpawnFault::Failed)
-        }
-    }
-}
-
 impl<R: Processes<Started = SystemProcess> + Wait + Copy + Drop, T: StartThread + Drop> StdSpawner<
     R,
     T,
@@ -183,15 +177,16 @@ impl<R: Processes<Started = SystemProcess> + Wait + Copy + Drop, T: StartThread 
     ) -> Result<StdKid<R, T>, SpawnFault>
         requires ring { IsFreshRing ring }
         requires feed { IsFreshFeed feed }
-        ensures kid { IfOk result (IsNewStdKid ring) }
+        ensures kid { IfOk result (IsNewStdKid launch.now ring feed) }
         ensures count { self.new.faults ≡ self.old.faults }
+        ensures taken { self.new.taken ≡ self.old.taken }
     {
         let Ok(threads) = self.threads.another() else {
             return Err(SpawnFault::NoMemory);
         };
         let pumps = self.pumps()?;
-        match spawn(&self.rt, self.alloc, launch) {
-            Ok(process) => join(self.rt, threads, process, pumps, ring, feed),
+        match Program::start(&self.rt, self.alloc, launch) {
+            Ok(program) => join(self.rt, threads, program, pumps, ring, feed),
             Err(fault) => {
                 threads.put(&self.rt, pumps.output_thread);
                 Err(fault)
@@ -204,17 +199,22 @@ impl<R: Processes<Started = SystemProcess> + Wait + Copy + Drop, T: StartThread 
 fn join<R: Drop, T: Drop>(
     rt: R,
     threads: ThreadPool<T>,
-    process: Child<SystemProcess>,
+    program: Program,
     pumps: Pumps,
     ring: PumpRing,
     feed: FeedRing,
 ) -> Result<StdKid<R, T>, SpawnFault>
     requires ring { IsFreshRing ring }
     requires feed { IsFreshFeed feed }
-    ensures kid { IfOk result (IsNewStdKid ring) }
+    ensures kid { IfOk result (IsNewStdKid (launch_of program) ring feed) }
 {
-    let mut process = process;
-    let (input, output) = take_pipes(&mut process)?;
+    let mut program = program;
+    let Some((input, output)) = program.take_pipes() else {
+        // A program without its pipes is of no use.
+        program.end();
+        return Err(SpawnFault::Failed);
+    };
+    let fed = Snapshot::of(&feed);
     let Pumps {
         output_bell,
         output_end_bell,
@@ -235,9 +235,10 @@ fn join<R: Drop, T: Drop>(
     Ok(StdKid::new(
         rt,
         threads,
-        process,
+        program,
         pump,
         output_thread.give(job),
+        fed,
         Input::Held(held),
     ))
 }
@@ -249,6 +250,8 @@ impl<
     type Kid = StdKid<R, T>;
 
     ghost faults = { λ s. s.faults };
+
+    ghost taken = { λ s. s.taken };
 
     fn start(
         &mut self,
@@ -269,5 +272,6 @@ impl<
             self.faults = self.faults.saturating_add(1);
         }
         kid.give_back();
+        self.taken = self.taken.wrapping_add(1);
     }
 }

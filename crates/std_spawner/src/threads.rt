@@ -48,6 +48,24 @@ pub(crate) struct IdleThreads<T> {
     ghost room: { most ≤ vec_capacity idle },
 }
 
+impl<T: Drop> IdleThreads<T> {
+    ghost use Rattle.std.specs.Prelude.{◌≡◌, [], IfOk};
+
+    // None yet, with room for as many as are kept.
+    fn new(alloc: Global, starter: T, most: usize) -> Result<Self, NoMemory>
+        ensures none { IfOk result (λ threads. threads.idle.items ≡ []) }
+        ensures most { IfOk result (λ threads. threads.most ≡ most) }
+        ensures starter { IfOk result (λ threads. threads.starter ≡ starter) }
+    {
+        Ok(IdleThreads {
+            starter,
+            alloc,
+            idle: Vec::with_capacity(alloc, most)?,
+            most,
+        })
+    }
+}
+
 impl<T: StartThread> IdleThreads<T> {
     ghost use Rattle.std.specs.Prelude.{◌≡◌, ◌≤◌, ◌<◌, ◌++◌, ◌∷◌, [], IfOk, IsOk, vec_len};
 
@@ -88,21 +106,21 @@ pub(crate) struct ThreadPool<T> {
 }
 
 impl<T: StartThread + Drop> ThreadPool<T> {
+    ghost use Rattle.std.specs.Prelude.{IfOk};
+    ghost use Rattle.std_spawner.specs.Threads.{IsSamePool};
+
     /// None yet; at most so many are kept that have nothing to do.
     pub fn new(alloc: Global, starter: T, most: usize) -> Result<Self, NoMemory> {
-        let threads = IdleThreads {
-            starter,
-            alloc,
-            idle: Vec::with_capacity(alloc, most)?,
-            most,
-        };
+        let threads = IdleThreads::new(alloc, starter, most)?;
         Ok(ThreadPool {
             shared: Arc::new(alloc, Mutex::new(threads))?,
         })
     }
 
     /// The same threads.
-    pub fn another(&self) -> Result<Self, NoMemory> {
+    pub fn another(&self) -> Result<Self, NoMemory>
+        ensures { IfOk result (λ other. IsSamePool self.now other) }
+    {
         Ok(ThreadPool {
             shared: self.shared.clone()?,
         })

@@ -1,6 +1,9 @@
-use Rattle.real_world.proofs.Limits.{all_loops}
+use Rattle.real_world.proofs.SideLaws.{all_loops, fresh_loops}
 use Rattle.real_world.proofs.world.RealWorld.enter_net.Goals as goal
 
 pub returns-in-Ok-enter-clause-limit : goal.returns-in-Ok-enter-clause-limit
 returns-in-Ok-enter-clause-limit g c =
     all_loops c.args.site.now.limits.children _ _ _ c.in-Ok.ensures.items c.put_loops.ensures.items c.in-Ok-enter.ensures.limit
+
+pub returns-in-Ok-enter-clause-entered : goal.returns-in-Ok-enter-clause-entered
+returns-in-Ok-enter-clause-entered g c = fresh_loops _ _ _ c.in-Ok.ensures.items c.put_loops.ensures.items c.in-Ok-enter.ensures.fresh
