@@ -1,6 +1,6 @@
+pub mod StateLaws
 pub mod GaveLaws
 pub mod PartLaws
 pub mod StepLaws
-pub mod HearLaws
-pub mod ReadyLaws
-pub mod HearsLaws
+pub mod WelcomeLaws
+pub mod OpenLaws

@@ -12,7 +12,7 @@ use Rattle.child_core.specs.Calls.{ended, outcome_of_ending}
 use Rattle.child_core.specs.Due.{acted, acted_by, acting, acting_by, is_feed_due}
 use Rattle.child_core.specs.View.{View}
 use Rattle.trace_child.specs.Words.{is_filled}
-use Rattle.conn_marks.specs.View.{View as Marks, has_room, may_write}
+use Rattle.conn_marks.specs.View.{View as Marks, has_room}
 use Rattle.conn_marks.specs.Form.{given_all}
 use Rattle.exchange_request.specs.declared.incoming.Incoming.{Incoming}
 use Rattle.request_reader.specs.Request.{is_whole_head}
@@ -23,102 +23,20 @@ use Rattle.exchange_stage.specs.declared.stage.Stage.TheVariants as At
 use Rattle.exchange_stage.specs.declared.stage.Stage.TheVariants.{Finishing, Running, Silent, Starting}
 use Rattle.conn_front.specs.Moves.{Move, acts_of, moved}
 use Rattle.conn_front.proofs.FrontLaws.{known_stood}
-use Rattle.conn_core.specs.declared.conn.Conn.{Conn}
-use Rattle.conn_core.specs.Begins.{ReadiesAnswer, ReadiesHop, silenced}
-use Rattle.conn_core.specs.Kept.{Gave, Kept, front_of, is_reading, number_of, peer_of, site_of}
-use Rattle.conn_core.specs.Moves.{ended_run, losing}
-use Rattle.conn_core.specs.Parts.{Answers, Begins, Deed, FinishesBy, Feeds, Gives, GivesBy, GivesHop, GivesHopBy, GivesUp, LooksAt, Loses, LosesFeed, LosesLook, LosesReady, LosesText, LosesTurn, MakesHopReady, MakesReady, Nothing, Or, Part, ReadsBy, ReadsOn, Round, Rounds, RoundsOn, ServesBy, ServesChild, ServesRun, SomeRounds, StartsRun, Then, WritesPart, WritesRest, gives_all, run_begun, the_one, the_other}
-use Rattle.conn_core.specs.Ready.{Lacks, Looks as LooksTo, MayLack, outcome_of_run}
-use Rattle.conn_core.specs.Reasons.{ends_with}
-use Rattle.conn_core.specs.Settles.{Settles, is_answered, stood}
-use Rattle.conn_core.specs.Slot.{run_settled}
-use Rattle.conn_core.specs.Tells.{TellsEnding, TellsMore, TellsTurn, goes_at, has_turn}
+use Rattle.conn_state.specs.declared.conn.Conn.{Conn}
+use Rattle.conn_state.specs.Begins.{ReadiesAnswer, ReadiesHop, silenced}
+use Rattle.conn_state.specs.Kept.{Gave, Kept, front_of, is_reading, number_of, peer_of, site_of}
+use Rattle.conn_state.specs.Moves.{ended_run, losing}
+use Rattle.conn_state.specs.Deeds.{Deed, GivesUp, Loses, Nothing, Or, Part, Then, gives_all, the_one, the_other}
+use Rattle.conn_core.specs.Parts.{Answers, Begins, FinishesBy, Feeds, Gives, GivesBy, GivesHop, GivesHopBy, LooksAt, LosesFeed, LosesLook, LosesReady, LosesText, LosesTurn, MakesHopReady, MakesReady, ReadsBy, ReadsOn, Round, Rounds, RoundsOn, ServesBy, ServesChild, ServesRun, SomeRounds, StartsRun, WritesPart, WritesRest, run_begun}
+use Rattle.conn_state.specs.Ready.{Lacks, Looks as LooksTo, MayLack, outcome_of_run}
+use Rattle.conn_state.specs.Settles.{Settles, is_answered, stood}
+use Rattle.conn_state.specs.Tells.{TellsEnding, TellsMore}
 use Rattle.conn_core.specs.Writes.{acts_written, wrote}
-use Rattle.conn_core.proofs.GaveLaws.{Wrote, adds_nothing, gave_as, gave_before, gave_from, gave_lost, gave_nothing, gave_part, gave_run, gave_still, gave_then, gave_turned, kept_known, kept_both, kept_number, leads_as, kept_turned, losing_kept, settles_turned}
-
--- ---- nothing ends the connection
-
-or_false : (a b : Bool) → (a || b) ≡ false → b ≡ false
-or_false true b e = absurd (false≢true (sym e))
-or_false false b e = e
-
-or_first : (a b : Bool) → (a || b) ≡ false → a ≡ false
-or_first true b e = e
-or_first false b e = refl
-
-or_true : (a b : Bool) → b ≡ true → (a || b) ≡ true
-or_true true b e = refl
-or_true false b e = e
-
-not_false : (a : Bool) → not a ≡ true → a ≡ false
-not_false true e = absurd (false≢true e)
-not_false false e = refl
-
-and_first : (a b : Bool) → (a && b) ≡ true → a ≡ true
-and_first true b e = refl
-and_first false b e = e
-
-or_left : (a b : Bool) → a ≡ true → (a || b) ≡ true
-or_left true b e = refl
-or_left false b e = absurd (false≢true e)
-
-pub none_by_first : (a b d : Bool) → a ≡ false → false ≡ (a && b && d)
-none_by_first true b d e = absurd (false≢true (sym e))
-none_by_first false b d e = refl
-
-pub none_by_mid : (a b d : Bool) → b ≡ false → false ≡ (a && b && d)
-none_by_mid false b d e = refl
-none_by_mid true true d e = absurd (false≢true (sym e))
-none_by_mid true false d e = refl
-
--- .. so memory was found
-fourth_false : (w s g l i c k x d : Bool) → (w || s || g || l || i || c || k || x || d) ≡ false → l ≡ false
-fourth_false w s g l i c k x d e =
-    or_false (w || s || g) l (or_first (w || s || g || l) i (or_first (w || s || g || l || i) c (or_first (w || s || g || l || i || c) k
-    (or_first (w || s || g || l || i || c || k) x (or_first (w || s || g || l || i || c || k || x) d e)))))
-
-fourth_true : (w s g l i c k x d : Bool) → l ≡ true → (w || s || g || l || i || c || k || x || d) ≡ true
-fourth_true w s g l i c k x d e =
-    or_left (w || s || g || l || i || c || k || x) d (or_left (w || s || g || l || i || c || k) x (or_left (w || s || g || l || i || c) k
-    (or_left (w || s || g || l || i) c (or_left (w || s || g || l) i (or_true (w || s || g) l e)))))
-
-pub going_found : (conn : Conn) (done : Bool) → ends_with conn done ≡ false → conn.lost ≡ false
-going_found conn done e =
-    fourth_false (not (may_write conn.marks)) conn.marks.stopped conn.marks.gone conn.lost conn.idled conn.closing conn.closes (is_some conn.cut) done e
-
-pub ends_lost : (conn : Conn) (done : Bool) → conn.lost ≡ true → ends_with conn done ≡ true
-ends_lost conn done lost =
-    fourth_true (not (may_write conn.marks)) conn.marks.stopped conn.marks.gone conn.lost conn.idled conn.closing conn.closes (is_some conn.cut) done lost
-
-pub ending_found : {conn : Conn} → TellsEnding conn false → conn.lost ≡ false
-ending_found {conn} t = going_found conn t.done (sym t.is)
-
-pub turn_found : {conn : Conn} → TellsTurn conn true → conn.lost ≡ false
-turn_found {conn} t =
-    going_found conn t.done (not_false (ends_with conn t.done) (and_first (not (ends_with conn t.done)) (run_settled conn.run)
-    (and_first (not (ends_with conn t.done) && run_settled conn.run) (has_room conn.marks) (sym t.is))))
-
--- once memory was wanting nothing goes on
-pub lost_rests : {conn : Conn} → TellsMore conn true → TellsMore (losing conn) false
-lost_rests {conn} t = record { done = t.done; tells = t.tells; is = go conn.stage }
-  where
-    ended_then : ends_with (losing conn) t.done ≡ true
-    ended_then = ends_lost (losing conn) t.done refl
-
-    no_turn : false ≡ has_turn (losing conn) t.done
-    no_turn = sym (ap (λ (b : Bool). not b && run_settled (losing conn).run && has_room conn.marks) ended_then)
-
-    go : (stage : Stage) → false ≡ goes_at (losing conn) t.done stage
-    go At.Reading = sym (ap (λ (b : Bool). not b && not (is_looked_at conn.request)) ended_then)
-    go (At.Rejected cause bare) = refl
-    go (At.Interrupted cause) = refl
-    go (At.Refused cause) = no_turn
-    go (At.Unstarted hop request) = no_turn
-    go (At.Starting leg launch body whole) = refl
-    go (At.Running leg) = refl
-    go (At.Finishing text closes) = refl
-    go At.Answered = refl
-    go At.Silent = refl
+use Rattle.conn_state.proofs.KeptLaws.{kept_known, kept_both, kept_number, leads_as, kept_turned, losing_kept, settles_turned}
+use Rattle.conn_core.proofs.GaveLaws.{Wrote, adds_nothing, gave_as, gave_before, gave_from, gave_lost, gave_nothing, gave_part, gave_run, gave_still, gave_then, gave_turned}
+use Rattle.conn_state.proofs.DueLaws.{and_first, ending_found}
+use Rattle.conn_state.proofs.TakenLaws.{given_up, given_up_from}
 
 -- ---- a part
 
@@ -136,9 +54,6 @@ part_from {A} {B} {old} {mid} {new} {n} {moves} k as_first p = record {
       leads_as (site_of old) (site_of mid) (number_of old) (number_of mid) mid new moves k.site (kept_number k) p.leads e (kept_known k e known);
   by = as_first p.by;
 }
-
-pub given_up : {old new : Conn} → new ≡ losing old → GivesUp old new
-given_up {old} {new} is = subst (λ (conn : Conn). GivesUp old conn) (sym is) (record { is = refl; limits = refl; answered = refl })
 
 -- ---- what came is looked at
 
@@ -191,19 +106,6 @@ gave_ready_lost k up lacks may = gave_part (gave_turned (kept_turned k (λ i. re
 pub gave_hop_ready : {stamp : Option ℕ} {old new : Conn} {n : ℕ} {b : Option (List Item)} → Kept old new → new.lost ≡ false → ReadiesHop old.stage stamp old new
     → Gave (Part (MakesHopReady stamp)) old n b new n b
 gave_hop_ready k found ready = gave_part (gave_turned (kept_turned k (λ i. record { none = refl; found = found; readies = ready })))
-
--- memory was wanting: what was taken out stays out
-pub given_up_from : {old new : Conn} → is_answered old.stage ≡ false → GivesUp (silenced old) new → GivesUp old new
-given_up_from {old} {new} unanswered up = record { is = up.is; limits = up.limits; answered = up.answered ∙ sym unanswered }
-
-pub given_up_taken : {old mid new : Conn} (stage : Stage) → stage ≡ old.stage → is_answered stage ≡ false → mid ≡ silenced old
-    → (mid.lost ≡ false → new.lost ≡ true → GivesUp mid new) → old.lost ≡ false → new.lost ≡ true → GivesUp old new
-given_up_taken {old} {mid} {new} stage taken unanswered rest up found lost =
-    given_up_from (sym (ap is_answered taken) ∙ unanswered)
-    (subst (λ (conn : Conn). GivesUp conn new) rest (up (ap (λ (conn : Conn). conn.lost) rest ∙ found) lost))
-
-pub same_leg : {a b : Leg} → Running a ≡ Running b → a ≡ b
-same_leg e = cc
 
 -- ---- what is ready is given
 

@@ -10,8 +10,8 @@ use Rattle.trace_child.specs.Words.{implies}
 use Rattle.trace_model.specs.Demands.{is_live as is_live_then}
 use Rattle.trace_model.specs.Steps.{goes_on}
 use Rattle.trace_model.specs.Stops.{stops}
-use Rattle.trace_model.proofs.ExchangeLaws.{all_of-current}
-use Rattle.conn_core.specs.Reasons.{Stops}
+use Rattle.trace_model.proofs.ExchangeLaws.{all_of-current, current-step}
+use Rattle.conn_state.specs.Reasons.{Stops}
 use Rattle.own_traces.specs.OwnFits.{fits_own}
 use Rattle.conn_marks.specs.View.{View as Marks, is_live, noted}
 use Rattle.conn_marks.specs.Form.{given_all}
@@ -19,15 +19,14 @@ use Rattle.conn_marks.specs.Knows.{Knows as KnowsMarks}
 use Rattle.conn_marks.proofs.KnowsLaws.{events_admitted, given_all-number, known_all, known_next}
 use Rattle.conn_laws.specs.Form.{all_come, all_in_time}
 use Rattle.conn_laws.proofs.FormLaws.{acts_come, acts_in_time, marks_say}
-use Rattle.conn_core.specs.declared.conn.Conn.{Conn}
+use Rattle.conn_state.specs.declared.conn.Conn.{Conn}
 use Rattle.host_trace.specs.declared.items.Act.{Act}
 use Rattle.trace_model.specs.Exchange.{Exchange, all_of, pushed}
 use Rattle.trace_model.specs.Exchanges.{current, current_after, has_ended, next_of}
-use Rattle.trace_model.proofs.ExchangeLaws.{current-step}
 use Rattle.conn_front.specs.Moves.{AreInStep, moved}
 use Rattle.conn_front.proofs.MoveLaws.{moves_cut}
-use Rattle.conn_core.specs.Kept.{HasChildIn, StandsFor, is_settled_as, marks_of, number_of, site_of}
-use Rattle.conn_core.specs.Slot.{run_settled}
+use Rattle.conn_state.specs.Kept.{HasChildIn, StandsFor, is_settled_as, marks_of, number_of, site_of}
+use Rattle.conn_state.specs.Slot.{run_settled}
 use Rattle.conn_core.specs.Step.{Stepped}
 
 event_known : (limit : ℕ) (m : Marks) (L : List Item) (ev : Event) → KnowsMarks m L → fits_own limit L ev ≡ true → KnowsMarks (noted m (In ev)) (L ++ In ev ∷ [])

@@ -8,15 +8,15 @@ use Rattle.host_trace.specs.Trace.{after_step, step_of}
 use Rattle.own_traces.specs.OwnFits.{fits_own}
 use Rattle.conn_marks.specs.Knows.{Knows as KnowsMarks}
 use Rattle.conn_laws.specs.Form.{all_come, all_in_time}
-use Rattle.conn_core.specs.declared.conn.Conn.{Conn}
+use Rattle.conn_state.specs.declared.conn.Conn.{Conn}
 use Rattle.trace_model.specs.Exchange.{pushed}
 use Rattle.trace_model.specs.Exchanges.{current, has_ended}
 use Rattle.trace_model.specs.Steps.{goes_on}
 use Rattle.trace_model.specs.Stops.{stops}
 use Rattle.conn_front.specs.Moves.{AreInStep, moved}
-use Rattle.conn_core.specs.Reasons.{Stops}
-use Rattle.conn_core.specs.Kept.{HasChildIn, StandsFor, is_settled_as, marks_of, number_of, site_of}
-use Rattle.conn_core.specs.Slot.{run_settled}
+use Rattle.conn_state.specs.Reasons.{Stops}
+use Rattle.conn_state.specs.Kept.{HasChildIn, StandsFor, is_settled_as, marks_of, number_of, site_of}
+use Rattle.conn_state.specs.Slot.{run_settled}
 use Rattle.conn_core.specs.Step.{Stepped}
 
 -- Where the marks of a connection know the list, they know it with the step of an event that fits.

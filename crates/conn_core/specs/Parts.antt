@@ -1,94 +1,33 @@
 -- What each part of a step does.
-use Rattle.std.specs.Prelude.{ℕ, zero, suc, ◌≡◌, Bool, true, false, not, ◌&&◌, List, [], ◌∷◌, ◌++◌, Option, Some, None}
+use Rattle.std.specs.Prelude.{ℕ, zero, suc, ◌≡◌, Bool, true, false, not, ◌&&◌, List, [], ◌∷◌, Option, Some, None}
 use Rattle.host_base.specs.declared.launch.Launch.{Launch}
 use Rattle.host_base.specs.declared.site.ScriptKind.{ScriptKind}
 use Rattle.host_base.specs.declared.site.Site.{Site}
-use Rattle.host_trace.specs.declared.items.Act.{Act}
 use Rattle.host_trace.specs.declared.items.Act.TheVariants.{Shut, Start, WantClient}
 use Rattle.host_trace.specs.declared.items.Item.TheVariants.{Out}
 use Rattle.host_trace.specs.declared.items.Why.{Why}
 use Rattle.host_trace.specs.Kinds.{is_no_memory}
-use Rattle.own_traces.specs.Whose.{next_after}
 use Rattle.child_core.specs.declared.ending.Outcome.TheVariants.{Output}
 use Rattle.child_core.specs.Calls.{offered}
 use Rattle.child_core.specs.Due.{acted, acting, is_feed_due}
 use Rattle.child_core.specs.View.{View, begun}
 use Rattle.trace_child.specs.Words.{is_filled}
 use Rattle.conn_marks.specs.View.{has_room, is_live, noted}
-use Rattle.conn_marks.specs.Form.{given_all}
 use Rattle.request_reader.specs.Request.{is_whole_head}
 use Rattle.exchange_request.specs.Knows.{Knows, is_looked_at, is_ready, limits_of}
 use Rattle.exchange_stage.specs.declared.stage.Leg.{Leg}
 use Rattle.exchange_stage.specs.declared.stage.Stage.{Stage}
 use Rattle.exchange_stage.specs.declared.stage.Stage.TheVariants.{Finishing, Running, Starting}
-use Rattle.conn_front.specs.Moves.{Move, acts_of, continues, gives, settles}
-use Rattle.conn_core.specs.declared.conn.Conn.{Conn}
-use Rattle.conn_core.specs.Begins.{ReadiesAnswer, ReadiesHop}
-use Rattle.conn_core.specs.Kept.{Leads, is_reading, marks_of, number_of, peer_of, site_of}
-use Rattle.conn_core.specs.Moves.{given_up_by, losing}
-use Rattle.conn_core.specs.Ready.{Lacks, Looks, MayLack, outcome_of_run, waits_at}
-use Rattle.conn_core.specs.Tells.{TellsAsk, TellsContinue, TellsEnding, TellsMore, TellsTurn, TellsWhy}
-use Rattle.conn_core.specs.Settles.{Follows, ending_of, is_answered, is_over, stood}
+use Rattle.conn_front.specs.Moves.{Move, continues, gives}
+use Rattle.conn_state.specs.declared.conn.Conn.{Conn}
+use Rattle.conn_state.specs.Begins.{ReadiesAnswer, ReadiesHop}
+use Rattle.conn_state.specs.Kept.{is_reading, site_of}
+use Rattle.conn_state.specs.Moves.{given_up_by, losing}
+use Rattle.conn_state.specs.Ready.{Lacks, Looks, MayLack, outcome_of_run, waits_at}
+use Rattle.conn_state.specs.Tells.{TellsAsk, TellsContinue, TellsEnding, TellsMore, TellsTurn, TellsWhy}
+use Rattle.conn_state.specs.Settles.{stood}
 use Rattle.conn_core.specs.Writes.{acts_written, continued, wrote}
-
--- What a part does: from a connection, where the next child has this number, by these moves, to a connection.
-abbrev pub Deed : Type 1
-Deed = Conn → ℕ → List Move → Conn → Type 0
-
--- ---- parts together
-
--- one after the other
-pub record Then (First Later : Deed) (old : Conn) (n : ℕ) (moves : List Move) (new : Conn) : Type 0 where
-  pub mid : Conn
-  pub sooner : List Move
-  pub later : List Move
-  pub are : moves ≡ sooner ++ later
-  pub first : First old n sooner mid
-  pub second : Later mid (next_after n (acts_of sooner)) later new
-
--- one or the other
-pub data Or (One Other : Deed) (old : Conn) (n : ℕ) (moves : List Move) (new : Conn) : Type 0 where
-  the_one : One old n moves new → Or One Other old n moves new
-  the_other : Other old n moves new → Or One Other old n moves new
-
--- A part that changes something: its marks know the acts, and what is known of its exchange beside its script goes on.
-pub record Part (By : Deed) (old : Conn) (n : ℕ) (moves : List Move) (new : Conn) : Type 0 where
-  pub site : site_of new ≡ site_of old
-  pub peer_is : peer_of new ≡ peer_of old
-  pub marks : marks_of new ≡ given_all (marks_of old) (acts_of moves)
-  pub leads : Leads (site_of old) (number_of old) old new moves
-  pub by : By old n moves new
-
-pub record Nothing (old : Conn) (n : ℕ) (moves : List Move) (new : Conn) : Type 0 where
-  pub none : moves ≡ []
-  pub same : new ≡ old
-
-abbrev pub gives_all : List Act → List Move
-gives_all [] = []
-gives_all (act ∷ acts) = gives act ∷ gives_all acts
-
--- ---- memory is wanting
-
--- The connection is over, and its child given up; its stage is another, but no answer stands whole that didn't, and of
--- the request the limits stay.
-pub record GivesUp (old new : Conn) : Type 0 where
-  pub is : new ≡ losing (record old { stage = new.stage; request = new.request })
-  pub limits : limits_of new.request ≡ limits_of old.request
-  pub answered : is_answered new.stage ≡ is_answered old.stage
-
-pub record Loses (old : Conn) (n : ℕ) (moves : List Move) (new : Conn) : Type 0 where
-  pub none : moves ≡ []
-  pub gives_up : GivesUp old new
-
--- ---- the end of an exchange
-
-abbrev pub EndsBy : Bool → Deed
-EndsBy true old n moves new = (moves ≡ settles (ending_of old) ∷ []) × Follows old new
-EndsBy false old n moves new = Nothing old n moves new
-
--- where the whole answer stands and no child is left, the next exchange begins
-abbrev pub Ends : Deed
-Ends old n moves new = EndsBy (is_over old) old n moves new
+pub use Rattle.conn_state.specs.Deeds.{Deed, Ends, EndsBy, GivesUp, Loses, Nothing, Or, Part, Then, gives_all, the_one, the_other}
 
 -- ---- what came is looked at, and 100 Continue written
 

@@ -11,15 +11,16 @@ use Rattle.conn_marks.specs.Form.{given_all, are_given}
 use Rattle.trace_model.specs.Exchange.{Exchange, pushed}
 use Rattle.conn_front.specs.Laws.{peer_after}
 use Rattle.conn_front.specs.Moves.{Move, acts_of}
-use Rattle.conn_core.specs.declared.conn.Conn.{Conn}
-use Rattle.conn_core.specs.Hears.{Hears}
-use Rattle.conn_core.specs.Kept.{AreOwn, HasChildIn, Heard, Led, StandsFor, is_settled_as, marks_of, number_of, peer_of, site_of}
+use Rattle.conn_state.specs.declared.conn.Conn.{Conn}
+use Rattle.conn_state.specs.Hears.{Hears}
+use Rattle.conn_state.specs.Kept.{AreOwn, HasChildIn, Heard, Led, StandsFor, is_settled_as, marks_of, number_of, peer_of, site_of}
+use Rattle.conn_state.specs.Deeds.{Deed}
 use Rattle.conn_core.specs.Parts.{Steps}
-use Rattle.conn_core.specs.Slot.{run_settled}
+use Rattle.conn_state.specs.Slot.{run_settled}
 
--- First the event was heard, and then all was done that was due, as of a time stamp: acts of the connection and its child
--- alone, as with the parts of a step.
-pub record Stepped (old : Conn) (ev : Event) (stamp : Option ℕ) (n : ℕ) (before : Option (List Item)) (new : Conn) (m : ℕ) (after : Option (List Item)) : Type 0 where
+-- First the event was heard, and then this was done: acts of the connection and its child alone, as with the parts of a
+-- step.
+pub record SteppedBy (Does : Deed) (old : Conn) (ev : Event) (n : ℕ) (before : Option (List Item)) (new : Conn) (m : ℕ) (after : Option (List Item)) : Type 0 where
   pub acts : List Act
   pub told : Adds before acts after
   pub next : m ≡ next_after n acts
@@ -32,9 +33,13 @@ pub record Stepped (old : Conn) (ev : Event) (stamp : Option ℕ) (n : ℕ) (bef
   pub heard : Heard old ev mid
   pub exact : Hears old ev mid
   pub later : List Move
-  pub does : Steps stamp mid n later new
+  pub does : Does mid n later new
   pub moves : List Move
   pub are : moves ≡ heard.moves ++ later
   pub same : acts_of moves ≡ acts
   pub keeps : (e : Exchange) → 2 ≤ (site_of old).limits.head → run_settled old.run ≡ is_settled_as old e → StandsFor old e
       → Led (site_of old) (number_of old) new (pushed e (In ev)) moves
+
+-- .. all that was due, as of a time stamp
+abbrev pub Stepped : Conn → Event → Option ℕ → ℕ → Option (List Item) → Conn → ℕ → Option (List Item) → Type 0
+Stepped old ev stamp n before new m after = SteppedBy (Steps stamp) old ev n before new m after

@@ -1,12 +1,13 @@
--- What a Write makes of a connection.
-use Rattle.std.specs.Prelude.{ℕ, Bool, true, false, List, [], ◌∷◌}
+-- What a Write makes of a connection, and which Start is given.
+use Rattle.std.specs.Prelude.{ℕ, ◌+◌, Bool, true, false, List, [], ◌∷◌}
+use Rattle.host_base.specs.declared.launch.Launch.{Launch}
 use Rattle.host_trace.specs.declared.items.Act.{Act}
-use Rattle.host_trace.specs.declared.items.Act.TheVariants.{Write}
+use Rattle.host_trace.specs.declared.items.Act.TheVariants.{Start, Write}
 use Rattle.host_trace.specs.declared.items.Item.TheVariants.{Out}
 use Rattle.trace_model.specs.Exchange.{continue_text}
 use Rattle.conn_marks.specs.View.{noted}
-use Rattle.conn_core.specs.declared.conn.Conn.{Conn}
-use Rattle.conn_core.specs.Moves.{losing}
+use Rattle.conn_state.specs.declared.conn.Conn.{Conn}
+use Rattle.conn_state.specs.Moves.{losing}
 
 -- bytes, of which there may be none, were written, or there was no room for them
 abbrev pub acts_written : ℕ → List ℕ → Bool → List Act
@@ -27,3 +28,13 @@ acts_continued c false = []
 abbrev pub continued : Bool → Conn → Conn
 continued true conn = record conn { marks = noted conn.marks (Out (Write conn.marks.c continue_text)); continued = true }
 continued false conn = losing conn
+
+-- what the exchange asks for was started as a hop's child, or there was no room for that
+abbrev pub acts_started : ℕ → Conn → ℕ → Launch → Bool → List Act
+acts_started n conn hop launch true = Start n conn.marks.c conn.number hop launch ∷ []
+acts_started n conn hop launch false = []
+
+-- the number of the next child then
+abbrev pub next_if : Bool → ℕ → ℕ
+next_if true n = n + 1
+next_if false n = n

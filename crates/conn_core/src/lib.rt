@@ -1,16 +1,15 @@
 //! One connection: it hears events and gives the acts that are due, exchange after exchange.
 #![tactic(auto)]
 
-mod answer;
-mod begin;
 mod close;
 mod conn;
 mod give;
-mod hear;
+mod greet;
 mod laws;
 mod serve;
 
-pub use conn::{Conn, Held};
+pub use conn::{Onward, drop_it, step};
+pub use conn_state::{Conn, Held};
 pub use laws::{
     steps_are_in_form, steps_are_in_time, steps_are_known, steps_keep_fronts, steps_stop,
 };

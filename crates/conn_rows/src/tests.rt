@@ -7,6 +7,7 @@ mod play;
 mod recorder;
 mod replies;
 mod requests;
+mod talks;
 
 use host_base::NoMemory;
 use play::{Row, run_row};

@@ -31,7 +31,7 @@ use Rattle.conn_children.specs.Laws.{TellsLast}
 use Rattle.conn_children.proofs.KnowLaws.{tells_last}
 use Rattle.conn_laws.proofs.FormLaws.{marks_say}
 use Rattle.conn_marks.specs.View.{has_room, is_live}
-use Rattle.conn_core.specs.declared.conn.Conn.{Conn}
+use Rattle.conn_core.specs.Conn.{Conn}
 use Rattle.conn_core.specs.Kept.{is_reading, marks_of, number_of, site_of}
 use Rattle.conn_core.specs.Ready.{outcome_of_run}
 use Rattle.conn_core.specs.Reasons.{hears_at, takes_more_of}

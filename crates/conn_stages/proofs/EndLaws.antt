@@ -32,7 +32,7 @@ use Rattle.exchange_stage.proofs.WriteLaws.{continues_are_written, parts_are_wri
 use Rattle.conn_children.specs.Children.{KnowsChildren, is_over as is_settled_run}
 use Rattle.conn_children.proofs.KnowLaws.{unsettled_exact}
 use Rattle.conn_front.specs.Moves.{HasEnded}
-use Rattle.conn_core.specs.declared.conn.Conn.{Conn}
+use Rattle.conn_core.specs.Conn.{Conn}
 use Rattle.conn_core.specs.Kept.{number_of, site_of}
 use Rattle.conn_core.specs.Settles.{ending_of, is_answered, is_over, stood}
 use Rattle.conn_core.specs.Slot.{run_settled}

@@ -34,7 +34,7 @@ use Rattle.exchange_stage.proofs.LostLaws.{breaks_interrupt}
 use Rattle.exchange_stage.proofs.WholeLaws.{begun_by_starts}
 use Rattle.conn_children.specs.Heard.{run_heard}
 use Rattle.conn_children.proofs.NoteLaws.{reading_same}
-use Rattle.conn_core.specs.declared.conn.Conn.{Conn}
+use Rattle.conn_core.specs.Conn.{Conn}
 use Rattle.conn_core.specs.Hears.{BreaksBegun, BreaksBy, Interrupts, TellsBegun, broken_if, is_untouched, is_untouched_at}
 use Rattle.conn_core.specs.Kept.{is_reading, marks_of, number_of, site_of}
 use Rattle.conn_core.specs.Ready.{undrained}

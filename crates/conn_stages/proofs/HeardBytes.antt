@@ -30,7 +30,7 @@ use Rattle.exchange_stage.specs.StageIs.{StageIs}
 use Rattle.conn_children.specs.Heard.{body_more, last_hop, offered_by}
 use Rattle.conn_children.proofs.NoteLaws.{Grows, body_grows}
 use Rattle.conn_children.proofs.SpentLaws.{offered_spent, offered_whole}
-use Rattle.conn_core.specs.declared.conn.Conn.{Conn}
+use Rattle.conn_core.specs.Conn.{Conn}
 use Rattle.conn_core.specs.Kept.{is_reading, marks_of, number_of, site_of}
 use Rattle.conn_stages.specs.HeardStages.{AtRest, Rested}
 use Rattle.conn_stages.proofs.EndLaws.{or_none}

@@ -25,7 +25,7 @@ use Rattle.exchange_stage.specs.Rules.{Rests}
 use Rattle.conn_children.specs.Children.{IsSpent}
 use Rattle.conn_children.specs.Heard.{cut_by, last_hop, run_heard}
 use Rattle.conn_children.proofs.SpentLaws.{cut_spent}
-use Rattle.conn_core.specs.declared.conn.Conn.{Conn}
+use Rattle.conn_core.specs.Conn.{Conn}
 use Rattle.conn_core.specs.Hears.{BreaksBy, EndsAt, EndsBy, HearsEnd, Interrupts, heard_run, is_untouched, is_untouched_at, told_run}
 use Rattle.conn_core.specs.Kept.{is_reading, marks_of, number_of, site_of}
 use Rattle.conn_core.specs.Moves.{ended_run}

@@ -16,7 +16,7 @@ use Rattle.trace_model.specs.Exchange.{Exchange, reading}
 use Rattle.trace_model.specs.Legs.{Leg as StartedLeg}
 use Rattle.trace_model.specs.Readings.{is_whole}
 use Rattle.conn_children.specs.Heard.{cut_by, last_hop, offered_by, run_heard}
-use Rattle.conn_core.specs.declared.conn.Conn.{Conn}
+use Rattle.conn_core.specs.Conn.{Conn}
 use Rattle.conn_core.specs.Hears.{Goes, HearsBytes, HearsEnd, HearsOwn, Loses, accepted, heard_run, told_run}
 use Rattle.conn_core.specs.Kept.{number_of, site_of}
 use Rattle.conn_marks.specs.View.{noted}

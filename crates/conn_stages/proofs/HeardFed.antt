@@ -23,7 +23,7 @@ use Rattle.exchange_stage.specs.Items.{noted_by}
 use Rattle.exchange_stage.specs.Rules.{Rests}
 use Rattle.exchange_stage.specs.StageIs.{StageIs}
 use Rattle.conn_children.specs.Heard.{last_hop, offered_by, run_heard}
-use Rattle.conn_core.specs.declared.conn.Conn.{Conn}
+use Rattle.conn_core.specs.Conn.{Conn}
 use Rattle.conn_core.specs.Hears.{heard_run}
 use Rattle.conn_core.specs.Kept.{is_reading, marks_of, number_of, site_of}
 use Rattle.conn_core.specs.Moves.{grown_stage}

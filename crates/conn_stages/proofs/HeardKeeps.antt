@@ -8,7 +8,7 @@ use Rattle.conn_marks.specs.View.{noted}
 use Rattle.exchange_request.specs.Knows.{is_taken}
 use Rattle.exchange_stage.specs.declared.stage.Stage.{Stage}
 use Rattle.exchange_stage.specs.declared.stage.Stage.TheVariants as At
-use Rattle.conn_core.specs.declared.conn.Conn.{Conn}
+use Rattle.conn_core.specs.Conn.{Conn}
 use Rattle.conn_core.specs.Hears.{BodyBy, BreaksBy, CountsDown, EndsAt, EndsBy, FeedsBy, Goes, HearsBytes, HearsEnd, HearsOwn, IdlesBy, Loses, TicksBy, When, accepted, awaits_body, broken_if, told_run, with_more}
 use Rattle.conn_core.specs.Kept.{marks_of, site_of}
 use Rattle.conn_core.specs.Moves.{losing, ticked_stage}

@@ -19,7 +19,7 @@ use Rattle.trace_model.specs.Legs.{Leg as StartedLeg}
 use Rattle.exchange_request.specs.Knows.{is_ready, is_taken}
 use Rattle.exchange_request.specs.declared.incoming.Incoming.{Incoming}
 use Rattle.conn_children.specs.Heard.{heard_by, last_hop, run_heard}
-use Rattle.conn_core.specs.declared.conn.Conn.{Conn}
+use Rattle.conn_core.specs.Conn.{Conn}
 use Rattle.conn_core.specs.Hears.{BodyBy, Feeds, FeedsBy, HearsBytes, When, awaits_body, heard_run, told_run}
 use Rattle.conn_core.specs.Kept.{is_reading, marks_of, number_of, site_of}
 use Rattle.conn_core.specs.Moves.{ended_run}

@@ -28,7 +28,7 @@ use Rattle.exchange_stage.proofs.WholeLaws.{whole_is_answered}
 use Rattle.conn_children.specs.Children.{KnowsChildren}
 use Rattle.conn_children.specs.Heard.{heard_by, last_hop, run_heard}
 use Rattle.conn_children.proofs.KnowLaws.{tells_last}
-use Rattle.conn_core.specs.declared.conn.Conn.{Conn}
+use Rattle.conn_core.specs.Conn.{Conn}
 use Rattle.conn_core.specs.Kept.{number_of, site_of}
 use Rattle.conn_core.specs.Settles.{is_answered}
 use Rattle.conn_stages.specs.HeardStages.{AtRest, Rested, SameAs}

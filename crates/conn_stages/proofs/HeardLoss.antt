@@ -9,7 +9,7 @@ use Rattle.conn_marks.specs.View.{noted}
 use Rattle.trace_model.specs.Exchange.{Exchange}
 use Rattle.trace_model.specs.Legs.{Leg as StartedLeg}
 use Rattle.exchange_request.specs.Knows.{is_taken}
-use Rattle.conn_core.specs.declared.conn.Conn.{Conn}
+use Rattle.conn_core.specs.Conn.{Conn}
 use Rattle.conn_core.specs.Hears.{Goes, HearsBytes, HearsEnd, HearsOwn, Loses, keeps_of, told_run}
 use Rattle.conn_core.specs.Kept.{number_of}
 use Rattle.conn_core.specs.Moves.{ticked_stage}

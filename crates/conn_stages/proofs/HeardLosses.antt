@@ -25,7 +25,7 @@ use Rattle.exchange_stage.specs.Items.{noted_by}
 use Rattle.conn_children.specs.Children.{dropped}
 use Rattle.conn_children.specs.Heard.{body_more, last_hop, offered_by, run_heard}
 use Rattle.conn_children.proofs.SpentLaws.{dropped_offered, dropped_twice}
-use Rattle.conn_core.specs.declared.conn.Conn.{Conn}
+use Rattle.conn_core.specs.Conn.{Conn}
 use Rattle.conn_core.specs.Hears.{BodyBy, BreaksBy, CountsDown, EndsAt, EndsBy, FeedsBy, HearsBytes, IdlesBy, TicksBy, When, broken_if, heard_run, keeps_of, told_run}
 use Rattle.conn_core.specs.Kept.{number_of, site_of}
 use Rattle.conn_core.specs.Moves.{ended_run, losing}

@@ -19,7 +19,7 @@ use Rattle.exchange_stage.specs.Bodies.{HasBody, is_offered_whole}
 use Rattle.exchange_stage.proofs.BodyStageLaws.{bodies_are_heard, offers_are_bodies}
 use Rattle.conn_front.specs.Front.{IsHeard}
 use Rattle.conn_front.proofs.FrontLaws.{unready_none}
-use Rattle.conn_core.specs.declared.conn.Conn.{Conn}
+use Rattle.conn_core.specs.Conn.{Conn}
 use Rattle.conn_core.specs.Kept.{is_reading, number_of, site_of}
 use Rattle.conn_core.specs.Ready.{LooksTo}
 use Rattle.conn_stages.specs.HeardStages.{HasHeard, LooksAreHeard, OffersAreKnown}

@@ -32,7 +32,7 @@ use Rattle.exchange_stage.proofs.BodyStageLaws.{bodies_are_heard}
 use Rattle.exchange_stage.proofs.ItemLaws.{items_keep_stages}
 use Rattle.conn_children.specs.Heard.{run_heard}
 use Rattle.conn_children.proofs.NoteLaws.{reading_same}
-use Rattle.conn_core.specs.declared.conn.Conn.{Conn}
+use Rattle.conn_core.specs.Conn.{Conn}
 use Rattle.conn_core.specs.Kept.{is_reading, number_of, site_of}
 use Rattle.conn_core.specs.Ready.{undrained}
 use Rattle.conn_stages.specs.HeardStages.{AtRest, HasHeard, HeardWell, Rested, SameAs}

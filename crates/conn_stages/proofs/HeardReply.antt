@@ -23,7 +23,7 @@ use Rattle.exchange_stage.specs.Rules.{Rests, RunRests}
 use Rattle.conn_children.specs.Children.{KnowsChildren}
 use Rattle.conn_children.specs.Heard.{heard_by, last_hop, run_heard}
 use Rattle.conn_children.proofs.EventLaws.{events_known}
-use Rattle.conn_core.specs.declared.conn.Conn.{Conn}
+use Rattle.conn_core.specs.Conn.{Conn}
 use Rattle.conn_core.specs.Kept.{number_of, site_of}
 use Rattle.conn_core.specs.Ready.{undrained}
 use Rattle.conn_stages.specs.HeardStages.{AtRest, Rested}

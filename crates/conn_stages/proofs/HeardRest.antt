@@ -39,7 +39,7 @@ use Rattle.exchange_stage.proofs.WholeLaws.{stages_are_walked}
 use Rattle.conn_children.specs.Children.{KnowsChildren, is_over}
 use Rattle.conn_children.specs.Laws.{TellsLast}
 use Rattle.conn_children.proofs.KnowLaws.{ends_exact, tells_last}
-use Rattle.conn_core.specs.declared.conn.Conn.{Conn}
+use Rattle.conn_core.specs.Conn.{Conn}
 use Rattle.conn_core.specs.Kept.{marks_of, number_of, site_of}
 use Rattle.conn_core.specs.Reasons.{is_done_with}
 use Rattle.conn_stages.specs.HeardStages.{AtRest, Rested}

@@ -20,7 +20,7 @@ use Rattle.conn_children.proofs.KnowLaws.{none_started}
 use Rattle.conn_children.proofs.OverLaws.{new_unended}
 use Rattle.conn_front.specs.Front.{KnowsFront}
 use Rattle.conn_front.proofs.FrontLaws.{starts_known}
-use Rattle.conn_core.specs.declared.conn.Conn.{Conn}
+use Rattle.conn_core.specs.Conn.{Conn}
 use Rattle.conn_core.specs.Kept.{StandsFor, front_of, is_reading, marks_of, number_of, site_of}
 use Rattle.conn_core.specs.Ready.{outcome_of_run, undrained}
 use Rattle.conn_stages.specs.Inward.{CutIs, Inward, IsDecided, StaysRun, is_left}

@@ -19,7 +19,7 @@ use Rattle.trace_model.specs.Legs.{Leg as StartedLeg}
 use Rattle.exchange_stage.specs.declared.stage.Stage.{Stage}
 use Rattle.exchange_stage.specs.declared.stage.Stage.TheVariants as At
 use Rattle.conn_children.specs.Heard.{cut_by, heard_by, last_hop, offered_by, run_heard}
-use Rattle.conn_core.specs.declared.conn.Conn.{Conn}
+use Rattle.conn_core.specs.Conn.{Conn}
 use Rattle.conn_core.specs.Hears.{BreaksBy, CountsDown, Goes, HearsBytes, HearsEnd, HearsOwn, HearsTick, IdlesBy, Loses, TicksBy, When, accepted, heard_run, is_untouched, keeps_of, told_run}
 use Rattle.conn_core.specs.Kept.{marks_of, number_of, site_of}
 use Rattle.conn_core.specs.Moves.{ticked_stage}

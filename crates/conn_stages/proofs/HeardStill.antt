@@ -30,7 +30,7 @@ use Rattle.exchange_stage.specs.Walked.{IsLast}
 use Rattle.exchange_stage.proofs.ItemLaws.{items_keep_stages}
 use Rattle.exchange_stage.proofs.LostLaws.{items_keep_lost}
 use Rattle.exchange_stage.proofs.RunLaws.{outcome_by_front}
-use Rattle.conn_core.specs.declared.conn.Conn.{Conn}
+use Rattle.conn_core.specs.Conn.{Conn}
 use Rattle.conn_core.specs.Kept.{number_of, site_of}
 use Rattle.conn_core.specs.Settles.{is_answered}
 use Rattle.conn_stages.specs.HeardStages.{AtRest, RestedLost}

@@ -30,7 +30,7 @@ use Rattle.exchange_stage.specs.StageIs.{StageIs}
 use Rattle.exchange_stage.proofs.BodyStageLaws.{bodies_are_heard, bodies_may_grow}
 use Rattle.conn_children.specs.Heard.{body_more, last_hop, offered_by, run_heard}
 use Rattle.conn_children.proofs.SpentLaws.{offered_spent}
-use Rattle.conn_core.specs.declared.conn.Conn.{Conn}
+use Rattle.conn_core.specs.Conn.{Conn}
 use Rattle.conn_core.specs.Hears.{heard_run, offered_run, takes_body}
 use Rattle.conn_core.specs.Kept.{is_reading, marks_of, number_of, site_of}
 use Rattle.conn_core.specs.Moves.{grown_stage}

@@ -18,7 +18,7 @@ use Rattle.conn_laws.proofs.IdleLaws.{idle_end}
 use Rattle.conn_children.specs.Children.{is_over}
 use Rattle.conn_children.specs.Heard.{run_heard}
 use Rattle.conn_children.proofs.KnowLaws.{unsettled_exact}
-use Rattle.conn_core.specs.declared.conn.Conn.{Conn}
+use Rattle.conn_core.specs.Conn.{Conn}
 use Rattle.conn_core.specs.Hears.{BreaksBy, CountsDown, HearsTick, IdleEnds, IdlesBy, Interrupts, TicksBy, heard_run, is_untouched, is_untouched_at, told_run}
 use Rattle.conn_core.specs.Kept.{marks_of, number_of, site_of}
 use Rattle.conn_core.specs.Moves.{ticked_stage}

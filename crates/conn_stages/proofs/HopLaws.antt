@@ -31,7 +31,7 @@ use Rattle.exchange_stage.specs.StageIs.{StageIs}
 use Rattle.exchange_stage.proofs.FinishLaws.{faults_are_ready}
 use Rattle.exchange_stage.proofs.PlaceLaws.{places_are_found}
 use Rattle.conn_front.specs.Front.{first_peer}
-use Rattle.conn_core.specs.declared.conn.Conn.{Conn}
+use Rattle.conn_core.specs.Conn.{Conn}
 use Rattle.conn_core.specs.Kept.{number_of, site_of}
 use Rattle.conn_core.specs.Begins.{PlaceBy, ReadiesHop, Refuses, ScriptBy, Starts, asked_of, bare_by, silenced}
 use Rattle.conn_stages.specs.Staged.{MayHop, Staged}
@@ -54,7 +54,7 @@ abbrev held : Peer → Option Peer → Peer
 held d None = d
 held d (Some peer) = peer
 
-launch_first : (site : Site) (ps : List Peer) (peer : Peer) (request : Request) (mapped : Mapped) (launch : Launch) → Some peer ≡ first_peer ps
+pub launch_first : (site : Site) (ps : List Peer) (peer : Peer) (request : Request) (mapped : Mapped) (launch : Launch) → Some peer ≡ first_peer ps
     → launch_of site peer request mapped ≡ Some launch → launch_by site ps request mapped ≡ Some launch
 launch_first site [] peer request mapped launch is l = absurd (cc)
 launch_first site (p ∷ ps) peer request mapped launch is l = subst (λ (q : Peer). launch_of site q request mapped ≡ Some launch) (ap (held peer) is) l

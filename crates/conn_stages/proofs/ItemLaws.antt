@@ -24,7 +24,7 @@ use Rattle.exchange_stage.proofs.CutLaws.{losses_are_known}
 use Rattle.exchange_stage.proofs.ItemLaws.{items_keep_stages}
 use Rattle.conn_children.specs.Laws.{with_acts}
 use Rattle.conn_marks.specs.View.{View as Marks}
-use Rattle.conn_core.specs.declared.conn.Conn.{Conn}
+use Rattle.conn_core.specs.Conn.{Conn}
 use Rattle.conn_core.specs.Kept.{number_of, site_of}
 use Rattle.conn_core.specs.Moves.{losing}
 use Rattle.conn_core.specs.Ready.{undrained}

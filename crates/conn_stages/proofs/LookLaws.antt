@@ -17,7 +17,7 @@ use Rattle.exchange_stage.specs.Unanswered.{IsUnready}
 use Rattle.exchange_stage.proofs.FinishLaws.{looks_move}
 use Rattle.conn_front.specs.Front.{IsHeard}
 use Rattle.conn_front.proofs.FrontLaws.{unready_none}
-use Rattle.conn_core.specs.declared.conn.Conn.{Conn}
+use Rattle.conn_core.specs.Conn.{Conn}
 use Rattle.conn_core.specs.Kept.{StandsFor, is_reading, number_of, site_of}
 use Rattle.conn_core.specs.Ready.{Looked, LooksTo}
 use Rattle.conn_stages.specs.Staged.{Staged}

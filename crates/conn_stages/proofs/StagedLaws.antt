@@ -36,7 +36,7 @@ use Rattle.exchange_stage.specs.StageIs.{StageIs}
 use Rattle.conn_children.specs.Children.{KnowsChildren}
 use Rattle.conn_children.proofs.KnowLaws.{tells_last}
 use Rattle.conn_front.specs.Front.{IsHeard}
-use Rattle.conn_core.specs.declared.conn.Conn.{Conn}
+use Rattle.conn_core.specs.Conn.{Conn}
 use Rattle.conn_core.specs.Kept.{number_of, site_of}
 use Rattle.conn_core.specs.Begins.{ByOutcome, ReadiesAnswer, silenced}
 use Rattle.conn_core.specs.Ready.{Breaks, BreaksBy, Concludes, EndsAs, EndsWith, HearsPiece, HearsTick, ReadsAll, Tells, closes_with, drained_run, outcome_of_run, stage_of_hop, undrained}

@@ -19,7 +19,7 @@ use Rattle.exchange_stage.specs.declared.stage.Stage.TheVariants as At
 use Rattle.exchange_stage.specs.Asks.{ReasonsAre, is_reading as reads}
 use Rattle.exchange_stage.proofs.ReasonLaws.{reasons_are_staged}
 use Rattle.conn_laws.proofs.FormLaws.{marks_say}
-use Rattle.conn_core.specs.declared.conn.Conn.{Conn}
+use Rattle.conn_core.specs.Conn.{Conn}
 use Rattle.conn_core.specs.Kept.{is_reading, marks_of, number_of, site_of}
 use Rattle.conn_core.specs.Reasons.{is_done_with, or_cut, why_of}
 use Rattle.conn_stages.specs.Staged.{MayShut}

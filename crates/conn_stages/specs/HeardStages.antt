@@ -27,7 +27,7 @@ use Rattle.exchange_stage.specs.Rules.{Rests}
 use Rattle.exchange_stage.specs.Unanswered.{is_awaited}
 use Rattle.conn_children.specs.Children.{KnowsChildren, dropped}
 use Rattle.conn_children.specs.Heard.{run_heard}
-use Rattle.conn_core.specs.declared.conn.Conn.{Conn}
+use Rattle.conn_core.specs.Conn.{Conn}
 use Rattle.conn_core.specs.Hears.{Hears}
 use Rattle.conn_core.specs.New.{IsNew}
 use Rattle.conn_core.specs.Kept.{StandsFor, is_reading, marks_of, number_of, site_of}

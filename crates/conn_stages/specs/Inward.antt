@@ -8,7 +8,7 @@ use Rattle.child_core.specs.View.{View}
 use Rattle.exchange_request.specs.Knows.{is_looked_at, is_taken}
 use Rattle.exchange_stage.specs.declared.stage.Stage.{Stage}
 use Rattle.exchange_stage.specs.declared.stage.Stage.TheVariants.{Running, Silent, Starting, Unstarted}
-use Rattle.conn_core.specs.declared.conn.Conn.{Conn}
+use Rattle.conn_core.specs.Conn.{Conn}
 use Rattle.conn_core.specs.Kept.{is_reading, marks_of}
 use Rattle.conn_core.specs.Ready.{outcome_of_run}
 use Rattle.conn_core.specs.Settles.{is_answered}

@@ -15,7 +15,7 @@ use Rattle.conn_marks.specs.View.{has_room, is_live}
 use Rattle.trace_model.specs.Standing.{stands_whole}
 use Rattle.child_core.specs.Due.{acted, acting}
 use Rattle.trace_model.specs.Legs.{Leg as Started}
-use Rattle.conn_core.specs.declared.conn.Conn.{Conn}
+use Rattle.conn_core.specs.Conn.{Conn}
 use Rattle.exchange_reply.specs.StepRules.{wrote}
 use Rattle.exchange_stage.specs.declared.stage.Leg.{Leg}
 use Rattle.exchange_stage.specs.declared.stage.Stage.TheVariants.{Finishing, Running, Starting}

@@ -21,7 +21,7 @@ use Rattle.exchange_stage.specs.StageIs.{LostIs, StageIs}
 use Rattle.conn_marks.specs.View.{is_live}
 use Rattle.conn_marks.specs.Knows.{Knows as KnowsMarks}
 use Rattle.conn_children.specs.Children.{KnowsChildren}
-use Rattle.conn_core.specs.declared.conn.Conn.{Conn}
+use Rattle.conn_core.specs.Conn.{Conn}
 use Rattle.conn_core.specs.Kept.{StandsFor, marks_of, number_of, site_of}
 use Rattle.conn_core.specs.Ready.{outcome_of_run, undrained}
 

@@ -17,7 +17,7 @@ use Rattle.conn_marks.specs.Form.{are_given}
 use Rattle.conn_children.specs.Step.{Turn}
 use Rattle.conn_children.specs.Moves.{may_lose}
 use Rattle.conn_front.specs.Moves.{Move, acts_of}
-use Rattle.conn_core.specs.declared.conn.Conn.{Conn}
+use Rattle.conn_core.specs.Conn.{Conn}
 use Rattle.conn_core.specs.Kept.{marks_of, site_of}
 use Rattle.conn_core.specs.Ready.{outcome_of_run}
 use Rattle.conn_core.specs.Parts.{Answers, AnswersBy, AnswersOn, Gives, LetsOn, LosesReady, MakesReady, Part, ReadsOn, Then, the_one, the_other}

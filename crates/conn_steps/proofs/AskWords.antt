@@ -15,7 +15,7 @@ use Rattle.exchange_stage.specs.declared.stage.Stage.{Stage}
 use Rattle.exchange_stage.specs.declared.stage.Stage.TheVariants as At
 use Rattle.conn_children.specs.Step.{Turn}
 use Rattle.conn_front.specs.Front.{IsHeard}
-use Rattle.conn_core.specs.declared.conn.Conn.{Conn}
+use Rattle.conn_core.specs.Conn.{Conn}
 use Rattle.conn_core.specs.Kept.{is_reading, marks_of, number_of}
 use Rattle.conn_core.specs.Reasons.{hears_at, is_done_with, takes_more_of}
 use Rattle.conn_core.specs.Tells.{goes_at}

@@ -14,7 +14,7 @@ use Rattle.exchange_stage.specs.declared.stage.Stage.TheVariants as At
 use Rattle.exchange_stage.specs.Bodies.{HasBody, body_heard}
 use Rattle.exchange_stage.proofs.BodyStageLaws.{bodies_are_heard}
 use Rattle.conn_laws.proofs.QuietLaws.{reading-quiet}
-use Rattle.conn_core.specs.declared.conn.Conn.{Conn}
+use Rattle.conn_core.specs.Conn.{Conn}
 use Rattle.conn_core.specs.Kept.{number_of, site_of}
 use Rattle.conn_stages.specs.HeardStages.{HasHeard}
 use Rattle.conn_stages.proofs.HeardOffers.{waits_same}

@@ -15,7 +15,7 @@ use Rattle.conn_marks.specs.View.{has_room, is_live, noted}
 use Rattle.conn_marks.specs.Form.{are_given}
 use Rattle.conn_children.specs.Step.{Turn}
 use Rattle.conn_front.specs.Moves.{Move, acts_of, gives}
-use Rattle.conn_core.specs.declared.conn.Conn.{Conn}
+use Rattle.conn_core.specs.Conn.{Conn}
 use Rattle.conn_core.specs.Kept.{marks_of, number_of, site_of}
 use Rattle.conn_core.specs.Moves.{given_up_by}
 use Rattle.conn_core.specs.Ready.{outcome_of_run}

@@ -23,7 +23,7 @@ use Rattle.conn_children.proofs.DealtLaws.{Apart, decided_rests, settled_rests, 
 use Rattle.conn_children.proofs.DueLaws.{unrefused}
 use Rattle.conn_children.proofs.MoveLaws.{moves_tell}
 use Rattle.conn_front.specs.Moves.{Move, acts_of, moved}
-use Rattle.conn_core.specs.declared.conn.Conn.{Conn}
+use Rattle.conn_core.specs.Conn.{Conn}
 use Rattle.conn_core.specs.Kept.{marks_of, number_of, site_of}
 use Rattle.conn_core.specs.Parts.{Steps}
 use Rattle.conn_stages.specs.HeardStages.{AtRest, Rested, RestedLost}

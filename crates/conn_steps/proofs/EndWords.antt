@@ -7,7 +7,7 @@ use Rattle.trace_model.specs.Exchange.{Exchange, request_bytes}
 use Rattle.conn_marks.specs.View.{is_live, may_write}
 use Rattle.exchange_request.specs.Knows.{limits_of}
 use Rattle.conn_front.specs.Front.{IsHeard}
-use Rattle.conn_core.specs.declared.conn.Conn.{Conn}
+use Rattle.conn_core.specs.Conn.{Conn}
 use Rattle.conn_core.specs.Kept.{StandsFor, is_reading, marks_of, number_of, site_of}
 use Rattle.conn_core.specs.Reasons.{ends_with, is_done_with}
 use Rattle.conn_core.specs.Tells.{TellsDone, TellsEnding}

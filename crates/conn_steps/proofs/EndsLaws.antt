@@ -25,7 +25,7 @@ use Rattle.conn_children.specs.Step.{Turn}
 use Rattle.conn_children.specs.Moves.{Deals}
 use Rattle.conn_children.proofs.MoveLaws.{ends_move}
 use Rattle.conn_front.specs.Moves.{HasEnded, Move, acts_of, settles}
-use Rattle.conn_core.specs.declared.conn.Conn.{Conn}
+use Rattle.conn_core.specs.Conn.{Conn}
 use Rattle.conn_core.specs.Kept.{is_reading, marks_of, number_of, site_of}
 use Rattle.conn_core.specs.Ready.{outcome_of_run}
 use Rattle.conn_core.specs.Reasons.{is_done_with}

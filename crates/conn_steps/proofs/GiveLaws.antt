@@ -11,7 +11,7 @@ use Rattle.conn_marks.specs.Form.{are_given}
 use Rattle.conn_children.specs.Step.{Turn}
 use Rattle.conn_children.specs.Moves.{may_lose}
 use Rattle.conn_front.specs.Moves.{Move, acts_of}
-use Rattle.conn_core.specs.declared.conn.Conn.{Conn}
+use Rattle.conn_core.specs.Conn.{Conn}
 use Rattle.conn_core.specs.Kept.{marks_of, site_of}
 use Rattle.conn_core.specs.Parts.{Gives, GivesBy, Nothing}
 use Rattle.conn_steps.specs.Standing.{Leaves, Quiet, QuietBy, Ready, ReadyAt, Standing, Within, ends_at, gives_at}

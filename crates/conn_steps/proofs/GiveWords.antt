@@ -11,7 +11,7 @@ use Rattle.exchange_stage.proofs.TurnLaws.{writes_come_in_turn}
 use Rattle.conn_children.specs.Step.{Turn}
 use Rattle.conn_children.specs.Moves.{Deals, may_lose}
 use Rattle.conn_front.specs.Moves.{Move}
-use Rattle.conn_core.specs.declared.conn.Conn.{Conn}
+use Rattle.conn_core.specs.Conn.{Conn}
 use Rattle.conn_core.specs.Kept.{number_of, site_of}
 use Rattle.conn_core.specs.Reasons.{is_done_with}
 use Rattle.conn_core.specs.Parts.{Loses}

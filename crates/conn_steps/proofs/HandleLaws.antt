@@ -19,7 +19,7 @@ use Rattle.conn_children.specs.Step.{Turn, begun, waiting}
 use Rattle.conn_children.specs.Moves.{Deals}
 use Rattle.conn_children.proofs.MoveLaws.{no_child_moves}
 use Rattle.conn_front.specs.Moves.{Move, acts_of}
-use Rattle.conn_core.specs.declared.conn.Conn.{Conn}
+use Rattle.conn_core.specs.Conn.{Conn}
 use Rattle.conn_core.specs.Kept.{marks_of, number_of, site_of}
 use Rattle.conn_core.specs.Parts.{Ends, Handles, LosesFeed, Part, ServesBy, ServesChild, ServesOrLoses, ServesRun, gives_all, the_one, the_other}
 use Rattle.conn_stages.specs.Inward.{IsDecided}

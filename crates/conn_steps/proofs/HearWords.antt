@@ -16,7 +16,7 @@ use Rattle.exchange_stage.proofs.RestLaws.{met, no_demand}
 use Rattle.conn_laws.proofs.FormLaws.{marks_say}
 use Rattle.conn_marks.specs.View.{has_room, is_live}
 use Rattle.conn_children.specs.Step.{Turn}
-use Rattle.conn_core.specs.declared.conn.Conn.{Conn}
+use Rattle.conn_core.specs.Conn.{Conn}
 use Rattle.conn_core.specs.Kept.{is_reading, marks_of, number_of, site_of}
 use Rattle.conn_core.specs.Reasons.{hears_at}
 use Rattle.conn_stages.proofs.AskLaws.{asks_due}

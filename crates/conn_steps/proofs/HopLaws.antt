@@ -24,7 +24,7 @@ use Rattle.conn_marks.specs.Form.{are_given}
 use Rattle.conn_children.specs.Step.{Turn}
 use Rattle.conn_children.specs.Moves.{Deals}
 use Rattle.conn_front.specs.Moves.{Move, acts_of}
-use Rattle.conn_core.specs.declared.conn.Conn.{Conn}
+use Rattle.conn_core.specs.Conn.{Conn}
 use Rattle.conn_core.specs.Begins.{PlaceBy, ReadiesHop, Refuses, ScriptBy, Starts, silenced}
 use Rattle.conn_core.specs.Kept.{is_reading, marks_of, number_of, site_of}
 use Rattle.conn_core.specs.Ready.{outcome_of_run}

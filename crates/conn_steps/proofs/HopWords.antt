@@ -18,7 +18,7 @@ use Rattle.conn_laws.proofs.FormLaws.{marks_say}
 use Rattle.conn_marks.specs.View.{has_room}
 use Rattle.conn_children.specs.Step.{Turn}
 use Rattle.conn_children.proofs.KnowLaws.{unsettled_exact}
-use Rattle.conn_core.specs.declared.conn.Conn.{Conn}
+use Rattle.conn_core.specs.Conn.{Conn}
 use Rattle.conn_core.specs.Kept.{is_reading, marks_of, number_of, site_of}
 use Rattle.conn_core.specs.Slot.{run_settled}
 use Rattle.conn_stages.specs.Staged.{MayHop}

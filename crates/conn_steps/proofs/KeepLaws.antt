@@ -30,7 +30,7 @@ use Rattle.conn_marks.specs.Form.{are_given}
 use Rattle.conn_marks.proofs.KnowsLaws.{given_all-number}
 use Rattle.conn_children.specs.Step.{Turn, waiting}
 use Rattle.conn_front.specs.Moves.{AreInStep, Move, acts_of, moved}
-use Rattle.conn_core.specs.declared.conn.Conn.{Conn}
+use Rattle.conn_core.specs.Conn.{Conn}
 use Rattle.conn_core.specs.Kept.{marks_of, number_of, site_of}
 use Rattle.conn_core.specs.Reasons.{is_done_with}
 use Rattle.conn_steps.specs.Laws.{KeepsStep, LostEnds}

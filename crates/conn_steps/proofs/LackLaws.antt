@@ -22,7 +22,7 @@ use Rattle.exchange_stage.proofs.CutLaws.{ends_are_ready}
 use Rattle.conn_children.specs.Step.{Turn}
 use Rattle.conn_children.specs.Moves.{may_lose}
 use Rattle.conn_front.specs.Moves.{Move}
-use Rattle.conn_core.specs.declared.conn.Conn.{Conn}
+use Rattle.conn_core.specs.Conn.{Conn}
 use Rattle.conn_core.specs.Kept.{number_of, site_of}
 use Rattle.conn_core.specs.Ready.{outcome_of_run}
 use Rattle.conn_core.specs.Reasons.{is_done_with}

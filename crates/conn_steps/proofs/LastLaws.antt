@@ -22,7 +22,7 @@ use Rattle.conn_children.specs.Step.{Turn}
 use Rattle.conn_children.specs.Moves.{may_lose}
 use Rattle.conn_children.proofs.MoveLaws.{acts_move}
 use Rattle.conn_front.specs.Moves.{Move, acts_of}
-use Rattle.conn_core.specs.declared.conn.Conn.{Conn}
+use Rattle.conn_core.specs.Conn.{Conn}
 use Rattle.conn_core.specs.Kept.{is_reading, marks_of, number_of, site_of}
 use Rattle.conn_core.specs.Reasons.{is_done_with}
 use Rattle.conn_core.specs.Settles.{stood}

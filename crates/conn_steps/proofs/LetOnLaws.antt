@@ -29,7 +29,7 @@ use Rattle.conn_children.specs.Moves.{may_lose}
 use Rattle.conn_children.proofs.MoveLaws.{acts_move}
 use Rattle.conn_front.specs.Front.{IsHeard}
 use Rattle.conn_front.specs.Moves.{Move, acts_of, continues}
-use Rattle.conn_core.specs.declared.conn.Conn.{Conn}
+use Rattle.conn_core.specs.Conn.{Conn}
 use Rattle.conn_core.specs.Kept.{is_reading, marks_of, number_of, site_of}
 use Rattle.conn_core.specs.Reasons.{ends_with, is_done_with}
 use Rattle.conn_core.specs.Writes.{continued}

@@ -19,7 +19,7 @@ use Rattle.conn_children.specs.Step.{Turn}
 use Rattle.conn_children.specs.Moves.{Deals, may_lose}
 use Rattle.conn_children.proofs.MoveLaws.{losses_move}
 use Rattle.conn_front.specs.Moves.{Move}
-use Rattle.conn_core.specs.declared.conn.Conn.{Conn}
+use Rattle.conn_core.specs.Conn.{Conn}
 use Rattle.conn_core.specs.Kept.{marks_of, number_of, site_of}
 use Rattle.conn_core.specs.Moves.{ended_run, losing}
 use Rattle.conn_core.specs.Settles.{is_answered, is_over}

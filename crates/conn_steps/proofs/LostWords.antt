@@ -24,7 +24,7 @@ use Rattle.conn_laws.proofs.FormLaws.{marks_say}
 use Rattle.conn_children.specs.Children.{KnowsChildren, KnowsRuns, NoMore}
 use Rattle.conn_children.specs.Step.{Turn}
 use Rattle.conn_children.proofs.MoveLaws.{moves_tell}
-use Rattle.conn_core.specs.declared.conn.Conn.{Conn}
+use Rattle.conn_core.specs.Conn.{Conn}
 use Rattle.conn_core.specs.Kept.{marks_of, number_of, site_of}
 use Rattle.conn_core.specs.Ready.{outcome_of_run}
 use Rattle.conn_stages.proofs.StagedLaws.{no_last, outcome_told}

@@ -18,7 +18,7 @@ use Rattle.exchange_stage.specs.Items.{is_calm, is_nothing}
 use Rattle.exchange_stage.specs.Rules.{IsUnended}
 use Rattle.conn_children.specs.Children.{KnowsChildren}
 use Rattle.conn_children.specs.Step.{Turn}
-use Rattle.conn_core.specs.declared.conn.Conn.{Conn}
+use Rattle.conn_core.specs.Conn.{Conn}
 use Rattle.conn_core.specs.Kept.{is_reading, marks_of, number_of, site_of}
 use Rattle.conn_core.specs.Ready.{outcome_of_run}
 use Rattle.conn_stages.proofs.StagedLaws.{no_last, outcome_told}

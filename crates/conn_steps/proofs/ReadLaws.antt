@@ -20,7 +20,7 @@ use Rattle.conn_children.specs.Moves.{Deals, may_lose}
 use Rattle.conn_front.specs.Front.{IsHeard}
 use Rattle.conn_front.specs.Moves.{Move, acts_of}
 use Rattle.conn_front.proofs.FrontLaws.{unready_none}
-use Rattle.conn_core.specs.declared.conn.Conn.{Conn}
+use Rattle.conn_core.specs.Conn.{Conn}
 use Rattle.conn_core.specs.Kept.{is_reading, marks_of, number_of, site_of}
 use Rattle.conn_core.specs.Ready.{LooksTo, outcome_of_run}
 use Rattle.conn_core.specs.Reasons.{is_done_with}

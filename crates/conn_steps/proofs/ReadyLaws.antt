@@ -27,7 +27,7 @@ use Rattle.conn_children.specs.Step.{Turn}
 use Rattle.conn_children.specs.Moves.{Deals, may_lose}
 use Rattle.conn_children.proofs.MoveLaws.{drains_move}
 use Rattle.conn_front.specs.Moves.{Move}
-use Rattle.conn_core.specs.declared.conn.Conn.{Conn}
+use Rattle.conn_core.specs.Conn.{Conn}
 use Rattle.conn_core.specs.Begins.{ByOutcome, ReadiesAnswer, silenced}
 use Rattle.conn_core.specs.Kept.{is_reading, marks_of, number_of, site_of}
 use Rattle.conn_core.specs.Ready.{BreaksBy, EndsWith, outcome_of_run}

@@ -26,7 +26,7 @@ use Rattle.conn_children.specs.Children.{KnowsChildren}
 use Rattle.conn_children.specs.Moves.{may_lose}
 use Rattle.conn_children.specs.Step.{Turn}
 use Rattle.conn_children.proofs.KnowLaws.{tells_last}
-use Rattle.conn_core.specs.declared.conn.Conn.{Conn}
+use Rattle.conn_core.specs.Conn.{Conn}
 use Rattle.conn_core.specs.Kept.{number_of, site_of}
 use Rattle.conn_core.specs.Ready.{drained_run, outcome_of_run, undrained}
 use Rattle.conn_stages.specs.Inward.{IsDecided}

@@ -41,7 +41,7 @@ use Rattle.conn_children.specs.Step.{Turn, begun, served, waiting}
 use Rattle.conn_children.specs.Moves.{Deals, EndsAt}
 use Rattle.conn_children.proofs.KnowLaws.{unsettled_exact}
 use Rattle.conn_children.proofs.MoveLaws.{moves_end_well, moves_tell}
-use Rattle.conn_core.specs.declared.conn.Conn.{Conn}
+use Rattle.conn_core.specs.Conn.{Conn}
 use Rattle.host_base.specs.declared.cause.Cause.{Cause}
 use Rattle.conn_core.specs.Kept.{is_reading, marks_of, number_of, site_of}
 use Rattle.conn_core.specs.Ready.{outcome_of_run}

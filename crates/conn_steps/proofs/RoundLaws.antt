@@ -19,7 +19,7 @@ use Rattle.conn_children.specs.Children.{KnowsRuns, NoMore}
 use Rattle.conn_children.specs.Step.{Turn, waiting}
 use Rattle.conn_children.specs.Moves.{may_lose}
 use Rattle.conn_front.specs.Moves.{Move, acts_of}
-use Rattle.conn_core.specs.declared.conn.Conn.{Conn}
+use Rattle.conn_core.specs.Conn.{Conn}
 use Rattle.conn_core.specs.Kept.{marks_of, number_of, site_of}
 use Rattle.conn_core.specs.Moves.{ended_run}
 use Rattle.conn_core.specs.Ready.{outcome_of_run}

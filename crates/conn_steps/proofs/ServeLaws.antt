@@ -24,7 +24,7 @@ use Rattle.conn_children.specs.Children.{KnowsChildren}
 use Rattle.conn_children.specs.Laws.{with_acts}
 use Rattle.conn_children.proofs.KnowLaws.{run_acts_known}
 use Rattle.conn_front.specs.Moves.{AreInStep, acts_of, moved}
-use Rattle.conn_core.specs.declared.conn.Conn.{Conn}
+use Rattle.conn_core.specs.Conn.{Conn}
 use Rattle.conn_core.specs.Kept.{number_of, site_of}
 use Rattle.conn_core.specs.Parts.{gives_all}
 use Rattle.conn_stages.specs.HeardStages.{HasHeard, StartsComeFirst}

@@ -25,7 +25,7 @@ use Rattle.conn_children.specs.Step.{Turn, waiting, served}
 use Rattle.conn_children.specs.Moves.{Deals}
 use Rattle.conn_children.proofs.MoveLaws.{serves_move}
 use Rattle.conn_front.specs.Moves.{acts_of, moved}
-use Rattle.conn_core.specs.declared.conn.Conn.{Conn}
+use Rattle.conn_core.specs.Conn.{Conn}
 use Rattle.conn_core.specs.Kept.{marks_of, number_of, site_of}
 use Rattle.conn_core.specs.Ready.{outcome_of_run, undrained}
 use Rattle.conn_core.specs.Reasons.{ends_with, is_done_with}

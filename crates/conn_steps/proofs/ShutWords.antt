@@ -28,7 +28,7 @@ use Rattle.conn_children.specs.Step.{Turn, begun, served, waiting}
 use Rattle.conn_children.specs.Moves.{Deals}
 use Rattle.conn_children.proofs.MoveLaws.{acts_move, shuts_move}
 use Rattle.conn_children.proofs.SpentLaws.{dropped_twice}
-use Rattle.conn_core.specs.declared.conn.Conn.{Conn}
+use Rattle.conn_core.specs.Conn.{Conn}
 use Rattle.conn_core.specs.Kept.{marks_of, number_of, site_of}
 use Rattle.conn_core.specs.Moves.{ended_run, given_up_by}
 use Rattle.conn_core.specs.Ready.{outcome_of_run}

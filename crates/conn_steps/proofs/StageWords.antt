@@ -25,7 +25,7 @@ use Rattle.conn_children.specs.Step.{Turn, waiting, begun, served}
 use Rattle.conn_children.specs.Moves.{may_lose}
 use Rattle.conn_children.proofs.KnowLaws.{ends_exact}
 use Rattle.conn_children.proofs.MoveLaws.{moves_tell}
-use Rattle.conn_core.specs.declared.conn.Conn.{Conn}
+use Rattle.conn_core.specs.Conn.{Conn}
 use Rattle.conn_core.specs.Kept.{marks_of, number_of, site_of}
 use Rattle.conn_core.specs.Moves.{ended_run}
 use Rattle.conn_core.specs.Ready.{undrained}

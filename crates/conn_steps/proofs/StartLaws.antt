@@ -36,7 +36,7 @@ use Rattle.conn_children.proofs.DrainLaws.{new_offered}
 use Rattle.conn_children.proofs.MoveLaws.{starts_move}
 use Rattle.child_core.specs.declared.ending.Ending.TheVariants.{Dropped}
 use Rattle.conn_front.specs.Moves.{AllBelong, AreInStep, Move, acts_of, gives}
-use Rattle.conn_core.specs.declared.conn.Conn.{Conn}
+use Rattle.conn_core.specs.Conn.{Conn}
 use Rattle.conn_core.specs.Kept.{is_reading, marks_of, number_of, site_of}
 use Rattle.conn_core.specs.Moves.{ended_run}
 use Rattle.conn_core.specs.Settles.{is_over}

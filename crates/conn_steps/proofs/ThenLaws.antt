@@ -21,7 +21,7 @@ use Rattle.conn_marks.proofs.KnowsLaws.{given_all-append, given_all-number, know
 use Rattle.conn_children.specs.Step.{Turn}
 use Rattle.conn_front.specs.Moves.{AreInStep, Move, acts_of, continues, gives, moved, settles}
 use Rattle.conn_front.proofs.MoveLaws.{acts_of-append, moved-append}
-use Rattle.conn_core.specs.declared.conn.Conn.{Conn}
+use Rattle.conn_core.specs.Conn.{Conn}
 use Rattle.conn_core.specs.Kept.{marks_of, number_of, site_of}
 use Rattle.conn_core.specs.Parts.{Deed, Nothing, Part, Then}
 use Rattle.conn_steps.specs.Standing.{WasShut, AreRight, Claim, Leaves, Makes, Standing}

@@ -24,7 +24,7 @@ use Rattle.conn_marks.specs.Form.{are_given}
 use Rattle.conn_children.specs.Step.{Turn, waiting}
 use Rattle.conn_children.proofs.MoveLaws.{acts_move}
 use Rattle.conn_front.specs.Moves.{Move, acts_of, gives}
-use Rattle.conn_core.specs.declared.conn.Conn.{Conn}
+use Rattle.conn_core.specs.Conn.{Conn}
 use Rattle.conn_core.specs.Kept.{StandsFor, marks_of, number_of, site_of}
 use Rattle.conn_core.specs.Ready.{outcome_of_run}
 use Rattle.conn_core.specs.Reasons.{ends_with, hears_at, is_done_with}

@@ -8,7 +8,7 @@ use Rattle.host_trace.specs.Kinds.{is_no_memory}
 use Rattle.trace_model.specs.Exchange.{Exchange, request_bytes}
 use Rattle.conn_marks.specs.View.{is_live}
 use Rattle.conn_front.specs.Front.{IsHeard}
-use Rattle.conn_core.specs.declared.conn.Conn.{Conn}
+use Rattle.conn_core.specs.Conn.{Conn}
 use Rattle.conn_core.specs.Kept.{StandsFor, is_reading, marks_of, number_of, site_of}
 use Rattle.conn_core.specs.Reasons.{is_done_with, or_cut, why_of}
 use Rattle.conn_core.specs.Tells.{TellsDone}

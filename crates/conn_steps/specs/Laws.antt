@@ -29,7 +29,7 @@ use Rattle.conn_marks.specs.Form.{are_given}
 use Rattle.conn_children.specs.Step.{Turn, waiting}
 use Rattle.conn_children.specs.Moves.{may_lose}
 use Rattle.conn_front.specs.Moves.{AreInStep, Move, acts_of, moved}
-use Rattle.conn_core.specs.declared.conn.Conn.{Conn}
+use Rattle.conn_core.specs.Conn.{Conn}
 use Rattle.conn_core.specs.Kept.{marks_of, number_of, site_of}
 use Rattle.conn_core.specs.Parts.{Answers, Handles, LetsOn, Part, ReadsOn, RoundsOn, Steps}
 use Rattle.conn_stages.specs.HeardStages.{AtRest}

@@ -32,7 +32,7 @@ use Rattle.conn_marks.specs.Knows.{Knows as KnowsMarks}
 use Rattle.conn_children.specs.Step.{Turn, begun, served, waiting}
 use Rattle.conn_children.specs.Moves.{Deals, may_lose}
 use Rattle.conn_front.specs.Moves.{Move, AreInStep, acts_of, continues, gives, moved, settles}
-use Rattle.conn_core.specs.declared.conn.Conn.{Conn}
+use Rattle.conn_core.specs.Conn.{Conn}
 use Rattle.conn_core.specs.Kept.{StandsFor, is_reading, marks_of, number_of, site_of}
 use Rattle.conn_core.specs.Ready.{outcome_of_run, undrained}
 use Rattle.conn_core.specs.Reasons.{ends_with, is_done_with}

@@ -4,9 +4,11 @@ use Rattle.std.proofs.lemmas.List.{length-drop, length-append}
 use Rattle.host_base.specs.declared.cause.Cause.{Cause}
 use Rattle.host_base.specs.declared.limits.Limits.{Limits}
 use Rattle.host_base.specs.declared.request.Request.{Request}
-use Rattle.request_reader.specs.Reader.{Reader, IsHeard, IsBehind, unread}
+use Rattle.request_reader.specs.Reader.{Reader, IsHeard, IsHeardBy, IsBehind, is_unread, unread}
 use Rattle.request_reader.specs.Request.{Reading, Whole, More, Bad, is_begun, is_length, read_request, used_by, with_body}
 use Rattle.request_reader.specs.RequestLaws.{Becomes}
+use Rattle.request_reader.specs.declared.fault.Fault.{Fault}
+use Rattle.request_reader.specs.declared.opened.Opened.{Opened}
 use Rattle.request_reader.proofs.Becoming.{readings_become}
 use Rattle.head_reader.specs.declared.step.HeadStep.TheVariants as Step
 use Rattle.request_reader.proofs.ReadingLaws.{reading_at}
@@ -107,6 +109,29 @@ begun_known i bytes taken k two ready = by_stage i.manner i.whole ready k.stands
     by_stage (Some manner) false r h = headed_begun i.limits bytes h.request two h.head
     by_stage (Some manner) true r h = headed_begun i.limits bytes h.request two (ap headed h.is)
 
+-- what is left of what was heard, where nothing of it was read
+left_of : (i : Incoming) (bytes : List ℕ) (taken : ℕ) → IsHeard i.reader bytes taken → is_unread i.reader ≡ true → i.reader.rest ≡ bytes
+left_of i bytes taken heard none = by_reader i.reader.fault i.reader.opened heard none
+  where
+    by_reader : (fault : Option Fault) (opened : Option Opened) → IsHeardBy i.reader.limits fault opened i.reader.rest bytes taken
+        → not (is_some opened || is_some fault) ≡ true → i.reader.rest ≡ bytes
+    by_reader None None h e = h.0
+    by_reader (Some fault) None h e = absurd (cc)
+    by_reader None (Some opened) h e = absurd (cc)
+    by_reader (Some fault) (Some opened) h e = absurd (cc)
+
+-- what is left behind a request that was read to its end
+pub knows_rest : (i : Incoming) (bytes : List ℕ) (taken : ℕ) → Knows i bytes taken → is_taken i ≡ true
+    → i.reader.rest ≡ drop (used_by (reading_of i bytes)) bytes
+knows_rest i bytes taken k whole = by_stage i.manner i.whole whole k.stands
+  where
+    by_stage : (manner : Option Manner) (is_whole : Bool) → is_whole ≡ true → StandsBy i manner is_whole bytes taken
+        → i.reader.rest ≡ drop (used_by (reading_of i bytes)) bytes
+    by_stage manner false e h = absurd (cc)
+    by_stage None true e h = absurd h
+    by_stage (Some manner) true e h =
+        left_of i (drop h.used bytes) 0 h.rest h.unread ∙ sym (ap (λ (r : Reading). drop (used_by r) bytes) h.is)
+
 -- ---- bytes come
 
 -- a request whose head is whole, with more of its body perhaps
@@ -145,6 +170,7 @@ pub record IsFed (i j : Incoming) (piece : List ℕ) : Type 0 where
   pub whole : j.whole ≡ i.whole
   pub due : j.due ≡ i.due
   pub fresh : j.fresh ≡ true
+  pub unread : is_unread j.reader ≡ is_unread i.reader
   pub heard : (bytes : List ℕ) (taken : ℕ) → IsHeard i.reader bytes taken → IsHeard j.reader (bytes ++ piece) taken
 
 pub knows_fed : (i j : Incoming) (bytes piece : List ℕ) (taken : ℕ) → 2 ≤ i.limits.head → IsFed i j piece → Knows i bytes taken
@@ -187,6 +213,7 @@ knows_fed i j bytes piece taken two f k =
           used = h.used;
           is = same ∙ stays ∙ ap (λ (b : Bool). Whole h.request h.used b) (sym f.due);
           rest = subst (λ (l : List ℕ). IsHeard j.reader l 0) (sym left) (f.heard (drop h.used bytes) 0 h.rest);
+          unread = f.unread ∙ h.unread;
           manner_is = h.manner_is;
           all = h.all;
         })
@@ -210,6 +237,7 @@ found_whole j bytes answered manner whole fresh due a behind =
           used = a.used;
           is = a.is ∙ ap (λ (b : Bool). Whole a.request a.used b) (sym due_is);
           rest = subst (λ (r : Reader). IsHeard r (drop a.used bytes) 0) (sym is_off) (refl, refl);
+          unread = ap (λ (r : Reader). is_unread r) is_off;
           manner_is = ap manner_of left;
           all = ap (λ (r : Request). length r.body) left;
         });
@@ -304,6 +332,7 @@ handed_whole i j bytes taken answered same manner whole fresh due w a behind =
           used = a.used;
           is = a.is ∙ ap (λ (b : Bool). Whole a.request a.used b) (sym due_is);
           rest = subst (λ (r : Reader). IsHeard r (drop a.used bytes) 0) (sym is_off) (refl, refl);
+          unread = ap (λ (r : Reader). is_unread r) is_off;
           manner_is = w.is.manner_is ∙ ap manner_of own;
           all = omega (arith, ap length body, length-drop taken a.request.body, within);
         });

@@ -5,7 +5,7 @@ use Rattle.host_base.specs.declared.request.Request.{Request}
 use Rattle.head_reader.specs.RequestHead.{read_head}
 use Rattle.head_reader.specs.declared.step.HeadStep.{HeadStep}
 use Rattle.head_reader.specs.declared.step.HeadStep.TheVariants as Head
-use Rattle.request_reader.specs.Reader.{IsHeard}
+use Rattle.request_reader.specs.Reader.{IsHeard, is_unread}
 use Rattle.request_reader.specs.Request.{Reading, Whole, More, Bad, is_length, read_request}
 use Rattle.trace_model.specs.Readings.{body_of, headed, if_length, is_due, is_whole, startable}
 use Rattle.exchange_request.specs.declared.found.Found.{Found}
@@ -85,6 +85,7 @@ pub record IsTaken (i : Incoming) (manner : Manner) (bytes : List ℕ) (taken : 
   pub used : ℕ
   pub is : reading_of i bytes ≡ Whole request used i.due
   pub rest : IsHeard i.reader (drop used bytes) 0
+  pub unread : is_unread i.reader ≡ true
   pub manner_is : manner ≡ manner_of request
   pub all : taken ≡ length request.body
 

@@ -239,6 +239,19 @@ impl Incoming {
         self.reader.rest().len()
     }
 
+    /// What came behind a request that was read to its end; nothing behind any other.
+    pub fn rest(&self) -> Result<Bytes, NoMemory>
+        ensures value { (bytes : List ℕ) (taken : ℕ) → Knows self.now bytes taken → is_taken self.now ≡ true
+            → IfOk result (λ rest. rest ≡ drop (used_by (reading_of self.now bytes)) bytes) }
+        ensures none { is_taken self.now ≡ false → IfOk result (λ rest. rest ≡ []) }
+        ensures memory { OnErr result (is_taken self.now ≡ true) }
+    {
+        if !self.whole {
+            return Ok(Bytes::new(self.alloc));
+        }
+        Bytes::from_slice(self.alloc, self.reader.rest())
+    }
+
     /// The exchange is over, and the next one begins with what its request left.
     pub fn go_on(&mut self)
         ensures next { (bytes : List ℕ) (taken : ℕ) → Knows self.old bytes taken → is_taken self.old ≡ true

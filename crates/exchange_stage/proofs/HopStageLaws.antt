@@ -100,6 +100,22 @@ of_hop site c e leg legs left hop request r = go r.legs_then r.same_legs r.reach
     go [] same l = absurd same
     go (first ∷ rest) same l = redirected_is site c e site.limits.redirects 0 r.reaches.first first rest left hop r.request_then l
 
+-- no local redirect leads to an accepted handshake
+pub accepted_first : (site : Site) (c : ℕ) (e : Exchange) (legs : List Leg) (left hop : ℕ) (request : Request) (origins : Option (List (List ℕ))) (value : List ℕ)
+    → StillReaches site c e legs left hop request → handshake request origins ≡ Ok value → hop ≡ 0
+accepted_first site c e legs left hop request origins value r taken = go r.legs_then r.reaches.leads
+  where
+    taken_then : handshake r.request_then origins ≡ Ok value
+    taken_then = ap (λ (q : Request). handshake q origins) r.same_request ∙ handshake_same request r.request_then.body origins ∙ taken
+
+    go : (legs_then : List Leg) → Leads site c e site.limits.redirects 0 r.reaches.first legs_then left hop r.request_then → hop ≡ 0
+    go [] l = sym l.1
+    go (first ∷ rest) l =
+        let was = (redirected_is site c e site.limits.redirects 0 r.reaches.first first rest left hop r.request_then l).0 in
+        let refused : handshake r.request_then origins ≡ Err UpgradeNeeded = ap (λ (q : Request). handshake q origins) was.is ∙ no_upgrade was.first was.location origins in
+        let both : Ok value ≡ Err UpgradeNeeded = sym taken_then ∙ refused in
+        absurd (cc)
+
 -- ---- the stage
 
 at_websocket : (site : Site) (c : ℕ) (e : Exchange) (left hop : ℕ) (request : Request) (mapped : Mapped) → place_of site request ≡ Ok mapped → kind_of site mapped ≡ WebSocket

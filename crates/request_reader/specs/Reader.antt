@@ -1,5 +1,5 @@
 -- What callers see of a reader, and what it keeps.
-use Rattle.std.specs.Prelude.{◌≡◌, ℕ, ◌+◌, ◌<◌, ◌≤◌, Bool, false, List, [], ◌++◌, length, take, drop, Option, Some, None, Ok}
+use Rattle.std.specs.Prelude.{◌≡◌, ℕ, ◌+◌, ◌<◌, ◌≤◌, Bool, false, not, ◌||◌, List, [], ◌++◌, length, take, drop, Option, Some, None, is_some, Ok}
 use Rattle.host_base.specs.declared.limits.Limits.{Limits}
 use Rattle.host_base.specs.declared.request.Framing.{Framing}
 use Rattle.host_base.specs.declared.request.Framing.TheVariants.{Empty, Length, Chunked}
@@ -25,6 +25,10 @@ pub record Reader : Type 0 where
 -- a reader that was fed these bytes and has read none of them
 abbrev pub unread : Limits → List ℕ → Reader
 unread limits bytes = record { limits = limits; opened = None; fault = None; rest = bytes }
+
+-- whether a reader has read none of the bytes that it was fed since the last whole request
+abbrev pub is_unread : Reader → Bool
+is_unread r = not (is_some r.opened || is_some r.fault)
 
 -- a body of n bytes, of which some were read: what was not handed out of them, and how many are left
 pub record IsCounted (n : ℕ) (o : Opened) (read : List ℕ) (taken : ℕ) : Type 0 where

@@ -21,6 +21,3 @@ pub use parts::persists;
 pub use reader::ReqReader;
 pub use redirect::redirected;
 pub use step::ReqStep;
-
-#[cfg(test)]
-mod tests;

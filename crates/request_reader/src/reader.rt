@@ -2,7 +2,7 @@
 ghost use Rattle.std.specs.Prelude.{◌≡◌, ◌≤◌, ◌+◌, ◌++◌, ℕ, Bool, true, List, [], Some, None, length, take, drop, vec_len, min, IfSome, IfOk, OnOk, OnErr, IsTrue, is_some, option_map};
 ghost use Rattle.request_reader.specs.Looks.{FaultsKeep, LookSays, early_opened, look_of, settled};
 ghost use Rattle.request_reader.specs.Opening.{emptied, kept_of, wanted_by, with_bytes};
-ghost use Rattle.request_reader.specs.Reader.{BadKeeps, Reader, IsBehind, IsHeard, IsOpened, data_kept, unread};
+ghost use Rattle.request_reader.specs.Reader.{BadKeeps, Reader, IsBehind, IsHeard, IsOpened, data_kept, is_unread, unread};
 ghost use Rattle.request_reader.specs.declared.step.ReqStep.TheVariants as Answer;
 ghost use Rattle.request_reader.specs.declared.opened.Opened.{Opened};
 ghost use Rattle.request_reader.specs.Request.{More, early_of, is_begun, is_length, is_whole_head, read_request, step_of, with_body};
@@ -335,6 +335,7 @@ impl ReqReader {
     pub fn feed(&mut self, piece: &[u8]) -> Result<(), NoMemory>
         ensures ok { (bytes : List ℕ) (taken : ℕ) → IsHeard self.old bytes taken
             → OnOk result (IsHeard self.new (bytes ++ piece.now) taken) }
+        ensures unread { is_unread self.new ≡ is_unread self.old }
         ensures limits { self.new.limits ≡ self.old.limits }
         ensures err { OnErr result (self.new ≡ self.old) }
     {

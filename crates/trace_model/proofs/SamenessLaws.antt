@@ -4,7 +4,7 @@ use Rattle.std.specs.Prelude.{◌&&◌, ◌==◌, bytes_eq}
 use Rattle.std.proofs.lemmas.Bool.{and_parts, and_from, eqb-true, eq-eqb, false≢true}
 use Rattle.std.proofs.lemmas.Slice.Eq.{bytes_eq-Decides}
 use Rattle.host_base.specs.declared.cause.Cause.{Cause}
-use Rattle.host_base.specs.declared.cause.Cause.TheVariants.{BadHead, Incomplete, BadTarget, BadHost, BadFraming, BadChunk, BadPath, BadHandshake, BadScgi, BadParams, BadRecord, OriginRefused, NoScript, IdleTime, BodyTooLong, TargetTooLong, BadExpect, UnknownHost, UpgradeNeeded, HeadTooLong, TooManyFields, RedirectLoop, NotServed, CodingUnknown, NotBuilt, StartFailed, OutputBroken, OutputTooLarge, NoOutput, HeaderIncomplete, HeaderTooLarge, HeaderLine, HeaderRepeated, BadStatus, BadLocation, NoneOfThree, RunTime, Full}
+use Rattle.host_base.specs.declared.cause.Cause.TheVariants.{BadHead, Incomplete, BadTarget, BadHost, BadFraming, BadChunk, BadPath, BadHandshake, BadScgi, BadParams, BadRecord, OriginRefused, NoScript, IdleTime, BodyTooLong, TargetTooLong, BadExpect, UnknownHost, UpgradeNeeded, HeadTooLong, TooManyFields, RedirectLoop, NotServed, CodingUnknown, StartFailed, OutputBroken, OutputTooLarge, NoOutput, HeaderIncomplete, HeaderTooLarge, HeaderLine, HeaderRepeated, BadStatus, BadLocation, NoneOfThree, RunTime, Full}
 use Rattle.host_base.specs.declared.launch.Launch.{Launch}
 use Rattle.host_base.specs.declared.launch.Pair.{Pair}
 use Rattle.host_trace.specs.declared.items.Why.{Why}
@@ -14,7 +14,7 @@ use Rattle.trace_model.specs.Sameness.{place_of_cause, seen_of_cause, is_same_ca
 
 -- the causes in their places
 abbrev causes : List Cause
-causes = BadHead ∷ Incomplete ∷ BadTarget ∷ BadHost ∷ BadFraming ∷ BadChunk ∷ BadPath ∷ BadHandshake ∷ BadScgi ∷ BadParams ∷ BadRecord ∷ OriginRefused ∷ NoScript ∷ IdleTime ∷ BodyTooLong ∷ TargetTooLong ∷ BadExpect ∷ UnknownHost ∷ UpgradeNeeded ∷ HeadTooLong ∷ TooManyFields ∷ RedirectLoop ∷ NotServed ∷ CodingUnknown ∷ NotBuilt ∷ StartFailed ∷ OutputBroken ∷ OutputTooLarge ∷ NoOutput ∷ HeaderIncomplete ∷ HeaderTooLarge ∷ HeaderLine ∷ HeaderRepeated ∷ BadStatus ∷ BadLocation ∷ NoneOfThree ∷ RunTime ∷ []
+causes = BadHead ∷ Incomplete ∷ BadTarget ∷ BadHost ∷ BadFraming ∷ BadChunk ∷ BadPath ∷ BadHandshake ∷ BadScgi ∷ BadParams ∷ BadRecord ∷ OriginRefused ∷ NoScript ∷ IdleTime ∷ BodyTooLong ∷ TargetTooLong ∷ BadExpect ∷ UnknownHost ∷ UpgradeNeeded ∷ HeadTooLong ∷ TooManyFields ∷ RedirectLoop ∷ NotServed ∷ CodingUnknown ∷ StartFailed ∷ OutputBroken ∷ OutputTooLarge ∷ NoOutput ∷ HeaderIncomplete ∷ HeaderTooLarge ∷ HeaderLine ∷ HeaderRepeated ∷ BadStatus ∷ BadLocation ∷ NoneOfThree ∷ RunTime ∷ []
 
 abbrev cause_in : List Cause → ℕ → ℕ → Cause
 cause_in [] seen place = Full seen
@@ -46,7 +46,6 @@ found_again TooManyFields = refl
 found_again RedirectLoop = refl
 found_again NotServed = refl
 found_again CodingUnknown = refl
-found_again NotBuilt = refl
 found_again StartFailed = refl
 found_again OutputBroken = refl
 found_again OutputTooLarge = refl

@@ -1,7 +1,7 @@
 -- Tests of whether two causes, reasons or launches are one.
 use Rattle.std.specs.Prelude.{ℕ, Bool, true, false, ◌&&◌, ◌==◌, List, [], ◌∷◌, bytes_eq}
 use Rattle.host_base.specs.declared.cause.Cause.{Cause}
-use Rattle.host_base.specs.declared.cause.Cause.TheVariants.{BadHead, Incomplete, BadTarget, BadHost, BadFraming, BadChunk, BadPath, BadHandshake, BadScgi, BadParams, BadRecord, OriginRefused, NoScript, IdleTime, BodyTooLong, TargetTooLong, BadExpect, UnknownHost, UpgradeNeeded, HeadTooLong, TooManyFields, RedirectLoop, NotServed, CodingUnknown, NotBuilt, StartFailed, OutputBroken, OutputTooLarge, NoOutput, HeaderIncomplete, HeaderTooLarge, HeaderLine, HeaderRepeated, BadStatus, BadLocation, NoneOfThree, RunTime, Full}
+use Rattle.host_base.specs.declared.cause.Cause.TheVariants.{BadHead, Incomplete, BadTarget, BadHost, BadFraming, BadChunk, BadPath, BadHandshake, BadScgi, BadParams, BadRecord, OriginRefused, NoScript, IdleTime, BodyTooLong, TargetTooLong, BadExpect, UnknownHost, UpgradeNeeded, HeadTooLong, TooManyFields, RedirectLoop, NotServed, CodingUnknown, StartFailed, OutputBroken, OutputTooLarge, NoOutput, HeaderIncomplete, HeaderTooLarge, HeaderLine, HeaderRepeated, BadStatus, BadLocation, NoneOfThree, RunTime, Full}
 use Rattle.host_base.specs.declared.launch.Launch.{Launch}
 use Rattle.host_base.specs.declared.launch.Pair.{Pair}
 use Rattle.host_trace.specs.declared.items.Why.{Why}
@@ -33,20 +33,19 @@ place_of_cause TooManyFields = 20
 place_of_cause RedirectLoop = 21
 place_of_cause NotServed = 22
 place_of_cause CodingUnknown = 23
-place_of_cause NotBuilt = 24
-place_of_cause StartFailed = 25
-place_of_cause OutputBroken = 26
-place_of_cause OutputTooLarge = 27
-place_of_cause NoOutput = 28
-place_of_cause HeaderIncomplete = 29
-place_of_cause HeaderTooLarge = 30
-place_of_cause HeaderLine = 31
-place_of_cause HeaderRepeated = 32
-place_of_cause BadStatus = 33
-place_of_cause BadLocation = 34
-place_of_cause NoneOfThree = 35
-place_of_cause RunTime = 36
-place_of_cause (Full seen) = 37
+place_of_cause StartFailed = 24
+place_of_cause OutputBroken = 25
+place_of_cause OutputTooLarge = 26
+place_of_cause NoOutput = 27
+place_of_cause HeaderIncomplete = 28
+place_of_cause HeaderTooLarge = 29
+place_of_cause HeaderLine = 30
+place_of_cause HeaderRepeated = 31
+place_of_cause BadStatus = 32
+place_of_cause BadLocation = 33
+place_of_cause NoneOfThree = 34
+place_of_cause RunTime = 35
+place_of_cause (Full seen) = 36
 
 abbrev pub seen_of_cause : Cause → ℕ
 seen_of_cause (Full seen) = seen

@@ -2,14 +2,14 @@
 ghost use Rattle.std.specs.Prelude.{◌≡◌};
 ghost use Rattle.host_base.specs.SiteRules.{IsServed};
 ghost use Rattle.reply_writer.specs.WholeRules.{IsStamp};
-ghost use Rattle.conn_core.specs.Kept.{site_of};
+ghost use Rattle.any_conn.specs.AnyConn.{may_step, site_of};
 
 use super::plain::Plain;
 use super::recorder::Recorder;
 use super::story::{Story, story_of};
 use super::told::Told;
 use super::world::{Cut, World};
-use conn_core::Conn;
+use any_conn::AnyConn;
 use host_base::{NoMemory, Site};
 use host_trace::Event;
 use reply_writer::DATES_END;
@@ -33,14 +33,15 @@ fn secs_of(event: &Event, clock: Option<u64>) -> Option<u64> {
 }
 
 // Tells the events to a connection.
-fn tell(conn: &mut Conn<'_>, events: Vec<Event>, out: &mut Recorder)
-    requires { IsServed (site_of conn.old) }
+fn tell(conn: &mut AnyConn<'_>, events: Vec<Event>, out: &mut Recorder)
+    requires served { IsServed (site_of conn.old) }
+    requires talks { may_step conn.old }
 {
     let mut children = 0u64;
     let mut clock = None;
     for event in events {
         clock = secs_of(&event, clock);
-        let _held = conn.step(event, stamp_of(clock), &mut children, out);
+        conn.step(event, stamp_of(clock), &mut children, out);
         out.mark();
     }
 }
@@ -49,7 +50,7 @@ fn tell(conn: &mut Conn<'_>, events: Vec<Event>, out: &mut Recorder)
 fn play(alloc: Global, site: &Site, events: Vec<Event>) -> Recorder
     requires { IsServed site.now }
 {
-    let mut conn = Conn::new(alloc, site, 0);
+    let mut conn = AnyConn::new(alloc, site, 0);
     let mut out = Recorder::new(alloc);
     tell(&mut conn, events, &mut out);
     out

@@ -3,7 +3,7 @@
 ghost use Rattle.host_base.specs.SiteRules.{IsServed};
 
 use super::play::{Row, SITE, record};
-use super::{replies, requests};
+use super::{replies, requests, talks};
 use host_base::{NoMemory, Site};
 use site_file::read_site;
 use std::alloc::Global;
@@ -71,6 +71,18 @@ fn each_act_may_find_no_room(rt: HostRuntime) -> Result<(), Fail> {
     let said = wrong(alloc, &site, replies::ROWS.as_slice())?;
     assert_eq!(rt; said, "");
     let said = wrong(alloc, &site, requests::ROWS.as_slice())?;
+    assert_eq!(rt; said, "");
+    Ok(())
+}
+
+#[test]
+fn each_act_of_a_talk_may_find_no_room(rt: HostRuntime) -> Result<(), Fail> {
+    let alloc = rt.alloc();
+    let Ok(site) = read_site(alloc, SITE.as_bytes()) else {
+        assert!(rt; false);
+        return Ok(());
+    };
+    let said = wrong(alloc, &site, talks::ROWS.as_slice())?;
     assert_eq!(rt; said, "");
     Ok(())
 }

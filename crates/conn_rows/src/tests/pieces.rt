@@ -1,14 +1,14 @@
-// What is written doesn't depend on how the client's bytes and the output were cut.
+// What is written and said doesn't depend on how the client's bytes and the output were cut.
 ghost use Rattle.host_base.specs.SiteRules.{IsServed};
 
 use super::play::{Row, SITE, record};
-use super::{replies, requests};
+use super::{replies, requests, talks};
 use host_base::{NoMemory, Site};
 use site_file::read_site;
 use std::alloc::Global;
 use std::test::Fail;
 
-// The first row in which other bytes are written; nothing where there is none.
+// The first row in which something else is written or said; nothing where there is none.
 fn other(alloc: Global, site: &Site, rows: &[Row]) -> Result<&'static str, NoMemory>
     requires { IsServed site.now }
 {
@@ -16,6 +16,9 @@ fn other(alloc: Global, site: &Site, rows: &[Row]) -> Result<&'static str, NoMem
         let whole = record(alloc, site, row, false, None)?;
         let single = record(alloc, site, row, true, None)?;
         if whole.wrote.as_slice() != single.wrote.as_slice() {
+            return Ok(row.name);
+        }
+        if whole.said.as_str() != single.said.as_str() {
             return Ok(row.name);
         }
         // as many children are started, with the same
@@ -36,6 +39,18 @@ fn single_bytes_are_answered_as_whole_pieces(rt: HostRuntime) -> Result<(), Fail
     let said = other(alloc, &site, replies::ROWS.as_slice())?;
     assert_eq!(rt; said, "");
     let said = other(alloc, &site, requests::ROWS.as_slice())?;
+    assert_eq!(rt; said, "");
+    Ok(())
+}
+
+#[test]
+fn single_bytes_are_talked_as_whole_pieces(rt: HostRuntime) -> Result<(), Fail> {
+    let alloc = rt.alloc();
+    let Ok(site) = read_site(alloc, SITE.as_bytes()) else {
+        assert!(rt; false);
+        return Ok(());
+    };
+    let said = other(alloc, &site, talks::ROWS.as_slice())?;
     assert_eq!(rt; said, "");
     Ok(())
 }

@@ -4,7 +4,7 @@ ghost use Rattle.host_base.specs.SiteRules.{IsServed};
 ghost use Rattle.reply_writer.specs.WholeRules.{IsStamp};
 
 use super::recorder::Recorder;
-use conn_core::Conn;
+use any_conn::AnyConn;
 use host_base::{Bytes, NoMemory, Peer, Site, Text};
 use host_trace::Event;
 use reply_writer::DATES_END;
@@ -31,6 +31,12 @@ pub enum Heard {
     Took(u64, u64),
     InGone(u64),
     Exited(u64),
+    Message(&'static str),
+    // A message of so many bytes.
+    MessageFill(usize),
+    Binary,
+    Closed,
+    Refused,
     Tick(u64),
     Ticks(u32),
     NoRoom,
@@ -38,8 +44,9 @@ pub enum Heard {
 }
 
 use Heard::{
-    Accept, Client, End, Exited, Fill, Gone, InGone, NoRoom, Out, OutBroken, OutEnd, OutFill,
-    StartFailed, StartFull, Started, Stop, Tick, Ticks, Took, Wrote,
+    Accept, Binary, Client, Closed, End, Exited, Fill, Gone, InGone, Message, MessageFill, NoRoom,
+    Out, OutBroken, OutEnd, OutFill, Refused, StartFailed, StartFull, Started, Stop, Tick, Ticks,
+    Took, Wrote,
 };
 
 // What is heard, and the acts that follow.
@@ -71,6 +78,12 @@ kind = \"nph\"
 path = \"/ws\"
 program = \"/srv/cgi/lines\"
 kind = \"websocket\"
+
+[[script]]
+path = \"/shop\"
+program = \"/srv/cgi/shop\"
+kind = \"websocket\"
+origins = [\"http://example.com\"]
 ";
 
 // What is heard, step by step; nothing stands where the acts of a beat are to be marked off.
@@ -123,6 +136,17 @@ fn client_event(alloc: Global, heard: Heard) -> Result<Event, NoMemory> {
         End => Event::ClientEof { c: 0 },
         Gone => Event::ClientGone { c: 0 },
         Wrote(n) => Event::Wrote { c: 0, n },
+        Message(text) => Event::WsText {
+            c: 0,
+            bytes: Bytes::from_slice(alloc, text.as_bytes())?,
+        },
+        MessageFill(count) => Event::WsText {
+            c: 0,
+            bytes: filled(alloc, "", b'a', count)?,
+        },
+        Binary => Event::WsBinary { c: 0 },
+        Closed => Event::WsClosed { c: 0 },
+        Refused => Event::WsBad { c: 0 },
         NoRoom => Event::NoRoom { c: 0 },
         Tick(secs) => Event::Tick { secs },
         _ => Event::Stop,
@@ -220,7 +244,7 @@ impl Script {
 pub fn drive(alloc: Global, site: &Site, script: Script, refused: Option<u32>) -> Recorder
     requires { IsServed site.now }
 {
-    let mut conn = Conn::new(alloc, site, 0);
+    let mut conn = AnyConn::new(alloc, site, 0);
     let mut out = Recorder::new(alloc, refused);
     let mut children = 0u64;
     let mut clock = None;
@@ -230,7 +254,7 @@ pub fn drive(alloc: Global, site: &Site, script: Script, refused: Option<u32>) -
             None => out.mark(),
             Some(event) => {
                 clock = secs_of(&event, clock);
-                let _held = conn.step(event, stamp_of(clock), &mut children, &mut out);
+                conn.step(event, stamp_of(clock), &mut children, &mut out);
             }
         }
     }

@@ -13,6 +13,8 @@ pub struct Recorder {
     pub wrote: Bytes,
     // All bytes fed.
     pub fed: Bytes,
+    // All messages said, one a line.
+    pub said: String,
     // What children are started with: program, folder, arguments and variables, one a line.
     pub launched: String,
     // Acts that carry something, so far.
@@ -53,6 +55,7 @@ impl Recorder {
             log: String::new(alloc),
             wrote: Bytes::new(alloc),
             fed: Bytes::new(alloc),
+            said: String::new(alloc),
             launched: String::new(alloc),
             carried: 0,
             refused,
@@ -125,9 +128,30 @@ impl Recorder {
             Act::WantChild { k } => self.line(format!(in alloc; "WantChild {}", *k)?),
             Act::Kill { k } => self.line(format!(in alloc; "Kill {}", *k)?),
             Act::Release { k } => self.line(format!(in alloc; "Release {}", *k)?),
-            Act::Upgrade { .. } | Act::Says { .. } | Act::CloseWs { .. } => {
-                self.line(format!(in alloc; "WebSocket")?)
+            _ => self.note_talk(act),
+        }
+    }
+
+    // An act of a WebSocket.
+    fn note_talk(&mut self, act: &Act) -> Result<(), NoMemory> {
+        let alloc = self.alloc;
+        match act {
+            Act::Upgrade { rest, .. } => {
+                let text = bytes_text(alloc, rest)?;
+                self.line(format!(in alloc; "Upgrade <{}>", text.as_str())?)
             }
+            Act::Says { texts, .. } => {
+                let mut line = String::from_str(alloc, "Says")?;
+                for text in texts.as_slice() {
+                    push_line(&mut self.said, text.as_str())?;
+                    line.push_str(" <")?;
+                    line.push_str(text.as_str())?;
+                    line.push('>')?;
+                }
+                self.line(line)
+            }
+            Act::CloseWs { code, .. } => self.line(format!(in alloc; "CloseWs {}", *code)?),
+            _ => Ok(()),
         }
     }
 }

@@ -134,7 +134,7 @@ pub const ROWS: [Row; 13] = [
         ],
     },
     Row {
-        name: "the client is gone while the child lingers",
+        name: "a killed child that exits late is not killed again",
         limit: 65_536,
         beats: &[
             (Started, STARTED),

@@ -11,5 +11,6 @@ returns-clause-ok c heard taken k two =
       whole = refl;
       due = refl;
       fresh = refl;
+      unread = c.feed.ensures.unread;
       heard = c.in_ok-feed.ensures.ok;
     }) k

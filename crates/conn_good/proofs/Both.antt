@@ -1,0 +1,5 @@
+pub mod KindLaws
+pub mod GreetWords
+pub mod OpenWords
+pub mod GiveLaws
+pub mod Given

@@ -1,0 +1,11 @@
+pub mod FormLaws
+pub mod IdleWords
+pub mod MemoryWords
+pub mod FollowWords
+pub mod StillWords
+pub mod StillLaws
+pub mod TickWords
+pub mod TickLaws
+pub mod ExitLaws
+pub mod KnownLaws
+pub mod GoodLaws

@@ -1,0 +1,13 @@
+pub mod Slot
+pub mod Kept
+pub mod Moves
+pub mod Settles
+pub mod Reasons
+pub mod Tells
+pub mod Ready
+pub mod Begins
+pub mod New
+pub mod Hears
+pub mod Deeds
+pub mod Fits
+pub mod Kid

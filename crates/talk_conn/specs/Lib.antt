@@ -1,0 +1,4 @@
+pub mod View
+pub mod Slot
+pub mod Parts
+pub mod Step
