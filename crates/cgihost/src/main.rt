@@ -11,16 +11,22 @@ mod fault;
 mod sink;
 mod store;
 
+use child_book::{Blank, Ledger};
+use edge_loop::NetWorld;
 use fault::{FaultLine, number_of};
 use host_base::{Sink, SiteStore};
 use host_run::{Status, run};
+use net_edge::NetMaker;
 use once_edge::OnceWorld;
 use pump_pool::Station;
+use real_world::RealWorld;
 use sink::StdSink;
 use std::alloc::Global;
 use std::env;
 use std::env::Args;
-use std::io::ErrorKind;
+use std::io::{ErrorKind, Stdin};
+use std::marker::Brand;
+use std::net::Net;
 use std::process::{ExitCode, Processes, SystemProcess};
 use std::rt::Env;
 use std::sync::Wait;
@@ -64,19 +70,70 @@ fn end<R: Eprint>(rt: &R, status: &Status) -> ExitCode
     ExitCode::from(number)
 }
 
-// Runs the host by the words in the world of one connection.
+// What starts threads for one connection, and for each of as many loops as there may be.
+const STARTERS: u32 = 17;
+
+// What the world is made of: each of `starters` starts threads, the client of `once` is at `input` and `output`, and
+// orders to a server come from `orders`.
+#[derive(Drop)]
+struct Devices<T, K> {
+    starters: Vec<T>,
+    input: Stdin,
+    output: K,
+    orders: Stdin,
+}
+
+fn world<
+    R: Net + Processes<Started = SystemProcess> + Wait + Clock + Eprint + Copy + Drop + 'static,
+    T: StartThread + Drop,
+    K: Sink + Drop,
+    L: Ledger,
+>(
+    rt: R,
+    alloc: Global,
+    devices: Devices<T, K>,
+    blank: Blank,
+) -> Result<RealWorld<R, T, K, L>, Status>
+    requires name { blank.name ≡ L.name }
+    requires parts { blank.parts ≡ L.parts }
+    requires sixteen { blank.parts ≡ 16 }
+{
+    let Devices {
+        starters,
+        input,
+        output,
+        orders,
+    } = devices;
+    let mut starters = starters;
+    let Some(starter) = starters.pop() else {
+        return Err(Status::NoMemory);
+    };
+    let Ok(maker) = NetMaker::new(rt, alloc, starters, orders) else {
+        return Err(Status::NoMemory);
+    };
+    Ok(RealWorld::new(
+        alloc,
+        OnceWorld::new(rt, alloc, starter, input, output),
+        NetWorld::new(rt, alloc, maker, blank),
+    ))
+}
+
+// Runs the host by the words in the world of these devices.
 fn run_in<
-    R: Threads
+    R: Net
+        + Threads
         + Sync
         + Processes<Started = SystemProcess>
         + Wait
         + Clock
+        + Eprint
         + Copy
         + Drop
         + Send
         + 'static,
     T: StartThread + Drop + Send + 'static,
     K: Sink + Drop + Send + 'static,
+    L: Ledger + Send + Sync,
     F: SiteStore,
     S: Sink,
 >(
@@ -85,10 +142,17 @@ fn run_in<
     words: &[String],
     store: &mut F,
     report: &mut S,
-    world: OnceWorld<R, T, K>,
-) -> Status {
-    let mut world = world;
-    run(rt, alloc, words, store, report, &mut world)
+    devices: Devices<T, K>,
+    blank: Blank,
+) -> Status
+    requires name { blank.name ≡ L.name }
+    requires parts { blank.parts ≡ L.parts }
+    requires sixteen { blank.parts ≡ 16 }
+{
+    match world::<R, T, K, L>(*rt, alloc, devices, blank) {
+        Ok(mut world) => run(rt, alloc, words, store, report, &mut world),
+        Err(status) => status,
+    }
 }
 
 fn main(rt: HostRuntime) -> ExitCode {
@@ -97,22 +161,35 @@ fn main(rt: HostRuntime) -> ExitCode {
         Ok(words) => words,
         Err(status) => return end(&rt, &status),
     };
-    let start: Box<dyn Fn(Station<PumpJob>) -> bool + Send> = match Box::new(
-        alloc,
-        move |station: Station<PumpJob>| PumpJob::start_thread(&rt, station),
-    ) {
-        Ok(start) => start,
-        Err(_) => return end(&rt, &Status::NoMemory),
+    let mut starters = Vec::new(alloc);
+    for _ in 0..STARTERS {
+        let start: Box<dyn Fn(Station<PumpJob>) -> bool + Send> = match Box::new(
+            alloc,
+            move |station: Station<PumpJob>| PumpJob::start_thread(&rt, station),
+        ) {
+            Ok(start) => start,
+            Err(_) => return end(&rt, &Status::NoMemory),
+        };
+        if starters.push(ThreadStarter::new(start)).is_err() {
+            return end(&rt, &Status::NoMemory);
+        }
+    }
+    let devices = Devices {
+        starters,
+        input: rt.stdin(),
+        output: StdSink::new(rt),
+        orders: rt.stdin(),
     };
-    let world = OnceWorld::new(
-        rt,
-        alloc,
-        ThreadStarter::new(start),
-        rt.stdin(),
-        StdSink::new(rt),
-    );
     let mut store = FileStore::new(rt, alloc);
     let mut report = StdSink::new(rt);
-    let status = run_in(&rt, alloc, words.as_slice(), &mut store, &mut report, world);
+    let status = run_in::<_, _, _, Brand, _, _>(
+        &rt,
+        alloc,
+        words.as_slice(),
+        &mut store,
+        &mut report,
+        devices,
+        Blank::new(16),
+    );
     end(&rt, &status)
 }

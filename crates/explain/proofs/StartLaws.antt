@@ -1,6 +1,6 @@
 -- The first turn, and the last one.
-use Rattle.std.proofs.Common.{◌≡◌, ℕ, ◌+◌, ◌<◌, ◌≤◌, true, false, List, [], Option, None, refl, ap, ◌∙◌, inl, inr, arith}
-use Rattle.std.specs.Prelude.{◌||◌, ◌⊎◌}
+use Rattle.std.proofs.Common.{◌≡◌, ℕ, ◌+◌, ◌<◌, ◌≤◌, true, false, List, [], Option, None, refl, ap, sym, ◌∙◌, inl, inr, arith}
+use Rattle.std.specs.Prelude.{◌||◌, ◌⊎◌, if◌then◌else◌}
 use Rattle.host_base.specs.declared.launch.Peer.{Peer}
 use Rattle.host_base.specs.declared.limits.Limits.{Limits}
 use Rattle.host_base.specs.declared.site.Site.{Site}
@@ -10,9 +10,9 @@ use Rattle.head_reader.specs.RequestHead.{read_head}
 use Rattle.head_reader.specs.declared.step.HeadStep.TheVariants as Step
 use Rattle.head_reader.proofs.ReadLaws.{more_is_open}
 use Rattle.request_reader.specs.Request.{after_head, read_request}
-use Rattle.explain.specs.Explained.{EndsBy}
+use Rattle.explain.specs.Explained.{EndsBy, IsCutShort}
 use Rattle.explain.specs.Inputs.{Knows, goes_on, is_answer}
-use Rattle.explain.specs.Steps.{IsEnded, SaysEnding, Stands, Turned}
+use Rattle.explain.specs.Steps.{IsEnded, IsLost, SaysEnding, Stands, Turned}
 use Rattle.explain.specs.declared.explain.Explained.{Explained}
 use Rattle.explain.specs.declared.explain.Explained.TheVariants as Was
 use Rattle.explain.specs.declared.first.First.{First}
@@ -58,4 +58,8 @@ pub ended_by : (site : Site) (turns count : ℕ) (peer : Option Peer) (ending : 
 ended_by site turns count peer ending (Was.Text text) T few e says =
     (record { explained = e.explained; first = e.first; within = rw e.heard (omega (arith, few)) }, says ∙ e.text)
 ended_by site turns count peer ending Was.Spent T few e says = absurd says
-ended_by site turns count peer ending Was.NoMemory T few e says = tt
+ended_by site turns count peer ending Was.NoMemory T few e says =
+    record { first = e.first ∙ sym (ap (λ b. if b then 1 else 0) e.explained); within = rw e.heard (omega (arith, few)) }
+
+pub lost_by : (site : Site) (turns count : ℕ) (T : List Item) → count < turns → IsLost site (count + 1) T → IsCutShort site turns T
+lost_by site turns count T few l = record { first = l.first; within = rw l.heard (omega (arith, few)) }

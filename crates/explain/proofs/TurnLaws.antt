@@ -26,7 +26,7 @@ use Rattle.host_trace.proofs.StepLaws.{steps-append}
 use Rattle.request_reader.specs.Request.{Reading, Whole, More, Bad, is_begun, read_request}
 use Rattle.explain.specs.Explained.{AsksAlone, ends_where, first_reading, is_asking, is_explained, is_unasked}
 use Rattle.explain.specs.Inputs.{Knows, bytes_of, ending_of_reading, goes_on, heard_of, input_of, is_answer, peer_after}
-use Rattle.explain.specs.Steps.{Stands, IsEnded, Turned}
+use Rattle.explain.specs.Steps.{Stands, IsEnded, IsLost, Turned}
 use Rattle.explain.specs.declared.first.First.{First}
 use Rattle.explain.specs.declared.input.Ending.{Ending}
 use Rattle.explain.specs.declared.input.Ending.TheVariants as Ends
@@ -319,7 +319,7 @@ abbrev pub After : Site → First → ℕ → Heard → List Item → Event → 
 After site first turns Passed T event = Stands site first (turns + 1) (after_step T event [])
 After site first turns Asks T event = Stands site first (turns + 1) (after_step T event (WantClient 0 ∷ []))
 After site first turns (Ended ending) T event = IsEnded site first.peer (turns + 1) ending (after_step T event [])
-After site first turns NoMemory T event = AsksAlone (after_step T event [])
+After site first turns NoMemory T event = IsLost site (turns + 1) (after_step T event [])
 
 passed_counts : (a w : ℕ) (k : Bool) (r : Bool) (k' : Bool) → r ≡ false → k' ≡ k → a + (if k then 1 else 0) ≡ w → a + (if r then 1 else 0) + (if k' then 1 else 0) ≡ w
 passed_counts a w k false k' r e c = rw (e, add-zero a) c
@@ -379,7 +379,11 @@ after_event site first first' turns limit T event (Ended ending) s fit is knows 
     }
 after_event site first first' turns limit T event NoMemory s fit is knows same =
     let t = sums_event limit T event _ _ _ _ _ _ _ _ (sums_of site first turns T s) fit in
-    record { alone = t.alone; asks = ends_after is_unasked T event [] s.asks }
+    record {
+      alone = record { alone = t.alone; asks = ends_after is_unasked T event [] s.asks };
+      first = ends_after (is_explained site) T event [] s.never;
+      heard = t.events_is;
+    }
 
 -- ---- over what the outside tells
 

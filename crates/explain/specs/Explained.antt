@@ -59,8 +59,13 @@ pub record IsNeverExplained (site : Site) (turns : ℕ) (T : List Item) : Type 0
   pub never : ends_where (is_explained site) T ≡ 0
   pub heard : event_count T ≡ turns
 
+-- memory was wanting: it is explained at no step's end before the trace's, and no more events were heard than there are turns
+pub record IsCutShort (site : Site) (turns : ℕ) (T : List Item) : Type 0 where
+  pub first : ends_where (is_explained site) T ≡ (if is_explained site T then 1 else 0)
+  pub within : event_count T ≤ turns
+
 -- what is so of the trace by how explaining ended
 abbrev pub EndsBy : Site → ℕ → Explained → List Item → Type 0
 EndsBy site turns (Text text) T = IsFirstExplained site turns T × (string_bytes text ≡ explanation site T)
 EndsBy site turns Spent T = IsNeverExplained site turns T
-EndsBy site turns NoMemory T = Unit {0}
+EndsBy site turns NoMemory T = IsCutShort site turns T

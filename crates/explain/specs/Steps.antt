@@ -37,12 +37,18 @@ pub record IsEnded (site : Site) (peer : Option Peer) (turns : ℕ) (ending : En
   pub heard : event_count T ≡ turns
   pub text : ending_text site peer ending ≡ explanation site T
 
+-- no memory was found to hear an event: the first request hasn't ended before this turn
+pub record IsLost (site : Site) (turns : ℕ) (T : List Item) : Type 0 where
+  pub alone : AsksAlone T
+  pub first : ends_where (is_explained site) T ≡ (if is_explained site T then 1 else 0)
+  pub heard : event_count T ≡ turns
+
 -- by what was made of an event, after so many turns
 abbrev pub Turned : Site → First → ℕ → Heard → List Item → Type 0
 Turned site first turns Passed T = Stands site first (turns + 1) T
 Turned site first turns Asks T = Stands site first (turns + 1) T
 Turned site first turns (Ended ending) T = IsEnded site first.peer (turns + 1) ending T
-Turned site first turns NoMemory T = AsksAlone T
+Turned site first turns NoMemory T = IsLost site (turns + 1) T
 
 -- a whole request is made of texts
 abbrev pub HasEndingTexts : Ending → Type 0

@@ -5,16 +5,17 @@ use Rattle.host_trace.specs.declared.items.Event.{Event}
 use Rattle.host_trace.specs.declared.items.Item.{Item}
 use Rattle.many_conns.specs.Kind.{Gives, Gone, Laws}
 use Rattle.host_conns.specs.Host.{host_kind}
-use Rattle.conn_kind.specs.Stands.{conn_kind}
+use Rattle.conn_good.specs.Both.Stands.{any_kind}
+use Rattle.conn_good.proofs.Both.KindLaws.{may_stand}
 use Rattle.host_conns.specs.declared.host_conn.HostConn.{HostConn}
 
-held_as : (site : Site) (c : ℕ) (L : List Item) → Gone conn_kind site c L → Gone host_kind site c L
-held_as site c L g = record { conn = record { conn = g.conn }; number = g.number; stands = g.stands; free = g.free }
+held_as : (site : Site) (c : ℕ) (L : List Item) → Gone any_kind site c L → Gone host_kind site c L
+held_as site c L g = record { conn = record { conn = g.conn; talks = may_stand site g.conn L g.stands }; number = g.number; stands = g.stands; free = g.free }
 
-bare : (site : Site) (c : ℕ) (L : List Item) → Gone host_kind site c L → Gone conn_kind site c L
+bare : (site : Site) (c : ℕ) (L : List Item) → Gone host_kind site c L → Gone any_kind site c L
 bare site c L g = record { conn = g.conn.conn; number = g.number; stands = g.stands; free = g.free }
 
-pub host_laws : Laws conn_kind → Laws host_kind
+pub host_laws : Laws any_kind → Laws host_kind
 host_laws laws = record {
   child_kid = λ host k is. laws.child_kid host.conn k is;
   needs_is = λ host. laws.needs_is host.conn;
@@ -29,7 +30,7 @@ host_laws laws = record {
   full = λ site host M c L peer t ticks. held_as site c _ (laws.full site host.conn M c L peer t ticks);
 }
 
-pub host_gives : (old new : HostConn) (n m : ℕ) (ev : Event) (stamp : Option ℕ) (before after : Option (List Item)) → Gives conn_kind old.conn n ev stamp new.conn m before after
+pub host_gives : (old new : HostConn) (n m : ℕ) (ev : Event) (stamp : Option ℕ) (before after : Option (List Item)) → Gives any_kind old.conn n ev stamp new.conn m before after
     → Gives host_kind old n ev stamp new m before after
 host_gives old new n m ev stamp before after g = record {
   acts = g.acts;

@@ -1,55 +1,12 @@
-// A connection of this server is one of many.
-ghost use Rattle.host_conns.specs.Given.{all_laws};
-ghost use Rattle.host_conns.specs.Host.{host_kind};
+// A connection of this server.
+ghost use Rattle.any_conn.specs.AnyConn.{may_step};
+ghost use Rattle.any_conn.proofs.PropLaws.{may_step_prop};
 
-use conn_core::{Conn, Held};
-use host_base::Site;
-use host_trace::{Event, Outside};
-use many_conns::{Connection, NewConnection};
-use std::alloc::Global;
+use any_conn::AnyConn;
 
 /// One connection of a site, as the core of all connections holds it.
 #[derive(Drop)]
 pub struct HostConn<'s> {
-    conn: Conn<'s>,
-}
-
-impl<'s> Connection for HostConn<'s> {
-    ghost kind = { host_kind };
-
-    fn step<O: Outside>(
-        &mut self,
-        ev: Event,
-        now: Option<u64>,
-        children: &mut u64,
-        out: &mut O,
-    ) -> bool {
-        self.conn.step(ev, now, children, out) == Held::Yes
-    }
-
-    fn fits(&self, ev: &Event) -> bool {
-        self.conn.fits(ev)
-    }
-
-    fn kid(&self) -> Option<u64> {
-        self.conn.kid()
-    }
-
-    fn child(&self) -> Option<u64> {
-        self.conn.child()
-    }
-
-    fn needs_slot(&self) -> bool {
-        self.conn.held() == Held::Yes
-    }
-
-    ghost laws = { all_laws };
-}
-
-impl<'s> NewConnection<'s> for HostConn<'s> {
-    fn new(alloc: Global, site: &'s Site, c: u64) -> Self {
-        HostConn {
-            conn: Conn::new(alloc, site, c),
-        }
-    }
+    pub(crate) conn: AnyConn<'s>,
+    ghost talks: { may_step conn } by { may_step_prop conn },
 }

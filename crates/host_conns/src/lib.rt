@@ -2,5 +2,6 @@
 #![tactic(auto)]
 
 mod host_conn;
+mod one_of_many;
 
 pub use host_conn::HostConn;

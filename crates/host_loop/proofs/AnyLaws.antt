@@ -1,5 +1,5 @@
 -- Some element of a list that grows at its end.
-use Rattle.std.proofs.Common.{List, [], ◌∷◌, ◌++◌, ◌⊎◌, inl, inr}
+use Rattle.std.proofs.Common.{List, [], ◌∷◌, ◌++◌, inl, inr}
 use Rattle.host_loop.specs.Loops.{IsAny}
 
 pub any_before : {X : Type 0} (P : X → Type 0) (xs : List X) (x : X) → IsAny P xs → IsAny P (xs ++ x ∷ [])

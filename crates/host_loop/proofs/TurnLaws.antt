@@ -11,6 +11,7 @@ use Rattle.many_conns.specs.declared.connection.Connection.{Ghosts}
 use Rattle.all_conns.specs.declared.core_state.Core.{Core}
 use Rattle.all_conns.specs.Owners.{served}
 use Rattle.all_conns.specs.Stands.{Stands, Steps}
+use Rattle.host_loop.specs.Loops.{WasTold}
 use Rattle.host_loop.specs.Served.{is_over, over_count}
 use Rattle.host_loop.proofs.OverLaws.{counted, over_after}
 
@@ -40,3 +41,10 @@ turned core new limit before mid after ev n stands count none same hears steps a
       count = e ∙ ap (λ k. k + 1) (count h.was h.told);
       first = rw u (over_after h.was ev acts (none h.was h.told));
     }
+
+-- what is told after the turn was told at first, if what was told before it was
+pub told_still : (first before mid after : Option (List Item)) (limit : ℕ) (ev : Event) → WasTold first before → Hears limit before ev mid → AddsActs mid after → WasTold first after
+told_still first before mid after limit ev was hears adds = λ U told.
+    let a = (adds U told).1 in
+    let h = hears a.was a.told in
+    was h.was h.told

@@ -25,6 +25,14 @@ IsFresh told = (T : List Item) → told ≡ Some T → T ≡ []
 abbrev pub WhereTold : (List Item → Type 0) → Option (List Item) → Type 0
 WhereTold P told = (T : List Item) → told ≡ Some T → P T
 
+-- where it tells now, it told before
+abbrev pub WasTold : Option (List Item) → Option (List Item) → Type 0
+WasTold before after = (T : List Item) → after ≡ Some T → (U : List Item) × (before ≡ Some U)
+
+-- its loop came to its end, or used its turns
+abbrev pub HasEnded : ℕ → List Item → Type 0
+HasEnded turns T = Served turns Done T ⊎ Served turns Spent T
+
 -- this is promised of the trace, and its loop ended so
 pub record WasServed (Promise : List Item → Type 0) (turns : ℕ) (end : LoopEnd) (told : Option (List Item)) : Type 0 where
   pub good : WhereTold Promise told

@@ -7,7 +7,7 @@ mod serve;
 mod turns;
 mod world;
 
-pub use lanes::{Lane, cores, empty, fill};
+pub use lanes::{Lane, empty, lanes_of};
 pub use serve::{LoopEnd, serve_one};
 pub use turns::{TakesTurns, take_all_turns};
-pub use world::{WorldEnd, serve_world};
+pub use world::WorldEnd;

@@ -1,9 +1,8 @@
 // The turns of a loop.
-ghost use Rattle.std.specs.Prelude.{◌≡◌, ◌≤◌, ◌^◌, ℕ, true, All};
-ghost use Rattle.host_base.specs.declared.site.Site.{Site};
+ghost use Rattle.std.specs.Prelude.{◌≡◌, ◌≤◌, ◌<◌, ◌^◌, ℕ, true, All, length, slice_index_or};
 ghost use Rattle.all_conns.specs.Owners.{served};
 ghost use Rattle.all_conns.specs.Stands.{Good};
-ghost use Rattle.host_loop.specs.Loops.{HasHeardNothing, IsFresh, WasServed, is_ended};
+ghost use Rattle.host_loop.specs.Loops.{HasHeardNothing, IsFresh, WasServed, WasTold, is_ended};
 
 use crate::serve::LoopEnd;
 use all_conns::Core;
@@ -29,6 +28,7 @@ pub(crate) fn take_turns<'s, C: NewConnection<'s>, O: Outside>(
     ensures served { WasServed (Good C.kind (served core.old)) turns result (O.trace out.new) }
     ensures ended { is_ended result ≡ true }
     ensures site { served core.new ≡ served core.old }
+    ensures told { WasTold (O.trace out.old) (O.trace out.new) }
 {
     for turn in 0..turns {
         let ev = out.next();
@@ -42,28 +42,28 @@ pub(crate) fn take_turns<'s, C: NewConnection<'s>, O: Outside>(
 
 /// A loop that takes its turns by itself.
 pub trait TakesTurns {
-    /// The site that it serves.
-    ghost place: { Self → Site };
-
     /// It has heard nothing.
-    ghost begins: { ℕ → Self → Type 0 };
+    ghost begins: { Self → Type 0 };
 
     /// It has taken its turns.
     ghost ended: { ℕ → Self → Type 0 };
 
+    /// What its turns leave of it.
+    ghost keeps: { Self → Self → Type 0 };
+
     fn take_turns(&mut self, turns: u64)
         requires turns { turns ≤ 2 ^ 62 }
-        requires begins { begins turns self.old }
-        ensures place { place self.new ≡ place self.old }
-        ensures ended { ended turns self.new };
+        requires begins { begins self.old }
+        ensures ended { ended turns self.new }
+        ensures keeps { keeps self.old self.new };
 }
 
-/// Each loop takes its turns, in a thread of its own.
+/// Each loop takes its turns, in a thread of its own. A single one takes them in the thread of the caller.
 pub fn take_all_turns<R: Threads + Sync, L: TakesTurns + Send>(rt: &R, loops: &mut [L], turns: u64)
     requires turns { turns ≤ 2 ^ 62 }
-    requires begin { All (L.begins turns) loops.old }
+    requires begin { All L.begins loops.old }
     ensures ended { All (L.ended turns) loops.new }
-    ensures places { (site : Site) → All (λ l. L.place l ≡ site) loops.old → All (λ l. L.place l ≡ site) loops.new }
+    ensures keeps { (i : ℕ) (d : L) → i < length loops.old → L.keeps (slice_index_or loops.old i d) (slice_index_or loops.new i d) }
 {
     thread::for_each_mut(rt, loops, THREADS, &|_, one| { one.take_turns(turns) });
 }

@@ -7,11 +7,11 @@ use Rattle.host_run.specs.Given.{GivesBy, IsServed}
 use Rattle.host_run.specs.declared.top.Status.{Status}
 use Rattle.host_run.specs.declared.top.Status.TheVariants.{Done, Usage, SiteRefused, SiteUnread, WorldRefused, Spent, ReportFault, NoMemory}
 
-module _ (IsSite : Site → Type 0) (site : Site) (said : IsSite site) (turns : ℕ) (before after : Option (List (List Item))) where
-  served_as : (end : LoopEnd) → IsServed (λ s. s ≡ site) turns end before after → IsServed IsSite turns end before after
+module _ (IsSite : Site → Type 0) (site : Site) (said : IsSite site) (loops turns : ℕ) (before after : Option (List (List Item))) where
+  served_as : (end : LoopEnd) → IsServed (λ s. s ≡ site) loops turns end before after → IsServed IsSite loops turns end before after
   served_as end s = record { site = s.site; said = subst IsSite (sym s.said) said; gives = s.gives }
 
-  pub gives_by : (status : Status) → GivesBy (λ s. s ≡ site) turns status before after → GivesBy IsSite turns status before after
+  pub gives_by : (status : Status) → GivesBy (λ s. s ≡ site) loops turns status before after → GivesBy IsSite loops turns status before after
   gives_by Done gives = served_as _ gives
   gives_by Spent gives = served_as _ gives
   gives_by NoMemory (inl same) = inl same

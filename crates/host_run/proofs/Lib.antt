@@ -1,4 +1,3 @@
-pub mod TurnLaws
 pub mod StatusLaws
 pub mod JoinLaws
 pub mod WordLaws

@@ -70,7 +70,7 @@ ExplainsBy IsSite WorldRefused given given' put put' = (given' ≡ given) × (pu
 abbrev pub ExplainsAt : Option (List Stored) → Option Form → Status → Option (List (List Item)) → Option (List (List Item)) → Option (List ℕ) → Option (List ℕ) → Type 0
 ExplainsAt stored (Some (Does Explain place)) status given given' put put' = ExplainsBy (λ site. Says stored place (Ok site)) status given given' put put'
 ExplainsAt stored (Some (Does Once place)) status given given' put put' = Unit {0}
-ExplainsAt stored (Some (Does (Serve turns) place)) status given given' put put' = Unit {0}
+ExplainsAt stored (Some (Does (Serve loops turns) place)) status given given' put put' = Unit {0}
 ExplainsAt stored (Some (Does Check place)) status given given' put put' = Unit {0}
 ExplainsAt stored (Some (Does Upgrade place)) status given given' put put' = Unit {0}
 ExplainsAt stored (Some Help) status given given' put put' = Unit {0}

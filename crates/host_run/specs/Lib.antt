@@ -1,4 +1,3 @@
-pub mod Promise
 pub mod Words
 pub mod Statuses
 pub mod Given

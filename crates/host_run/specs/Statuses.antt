@@ -100,7 +100,7 @@ IsUpgradeText stored place text = (site : Site) × (Says stored place (Ok site) 
 abbrev pub ReportsBy : Option (List Stored) → Option Form → Status → Option (List ℕ) → Option (List ℕ) → Type 0
 ReportsBy stored None status before after = after ≡ before
 ReportsBy stored (Some (Does Once place)) status before after = after ≡ before
-ReportsBy stored (Some (Does (Serve turns) place)) status before after = after ≡ before
+ReportsBy stored (Some (Does (Serve loops turns) place)) status before after = after ≡ before
 ReportsBy stored (Some (Does Check place)) status before after = PutsBy (IsCheckText stored place) status before after
 ReportsBy stored (Some (Does Upgrade place)) status before after = PutsBy (IsUpgradeText stored place) status before after
 ReportsBy stored (Some (Does Explain place)) status before after = Unit {0}
@@ -129,7 +129,7 @@ reads_store None = false
 
 abbrev pub enters_world : Option Form → Bool
 enters_world (Some (Does Once place)) = true
-enters_world (Some (Does (Serve turns) place)) = true
+enters_world (Some (Does (Serve loops turns) place)) = true
 enters_world (Some (Does Explain place)) = true
 enters_world (Some (Does Check place)) = false
 enters_world (Some (Does Upgrade place)) = false
@@ -139,7 +139,7 @@ enters_world None = false
 
 abbrev pub writes_report : Option Form → Bool
 writes_report (Some (Does Once place)) = false
-writes_report (Some (Does (Serve turns) place)) = false
+writes_report (Some (Does (Serve loops turns) place)) = false
 writes_report (Some (Does Explain place)) = true
 writes_report (Some (Does Check place)) = true
 writes_report (Some (Does Upgrade place)) = true

@@ -1,5 +1,5 @@
 -- The words of the command line that have a form.
-use Rattle.std.specs.Prelude.{ℕ, ◌≤◌, ◌^◌, ◌==◌, ◌&&◌, Bool, true, false, nat_lt, nat_le, length, List, [], ◌∷◌, Option, Some, None, option_and_then, option_map, codes, bytes_eq, String, string_bytes, if◌then◌else◌}
+use Rattle.std.specs.Prelude.{ℕ, ◌<◌, ◌≤◌, ◌^◌, ◌==◌, ◌&&◌, Bool, true, false, nat_lt, nat_le, length, List, [], ◌∷◌, Option, Some, None, option_and_then, option_map, codes, bytes_eq, String, string_bytes, if◌then◌else◌}
 use Rattle.std.specs.Char.{is_ascii_digit}
 use Rattle.std.specs.List.{list_all, position_or_len, before_first, after_first}
 use Rattle.std.specs.Str.Parse.{digits_value}
@@ -9,6 +9,8 @@ use Rattle.host_run.specs.declared.words.Command.{Command}
 use Rattle.host_run.specs.declared.words.Command.TheVariants as Rust
 use Rattle.host_run.specs.declared.words.Place.{Place}
 use Rattle.host_run.specs.declared.words.Place.TheVariants as At
+use Rattle.host_run.specs.declared.words.ServeOption.{ServeOption}
+use Rattle.host_run.specs.declared.words.ServeOption.TheVariants.{Loops, Turns}
 use Rattle.host_run.specs.declared.words.Task.{Task}
 use Rattle.host_run.specs.declared.words.Task.TheVariants.{Once, Serve, Check, Upgrade, Explain}
 
@@ -68,7 +70,7 @@ place_of word = place_of_parts word (parts_of word)
 abbrev pub task_of : List ℕ → Option Task
 task_of word =
     if bytes_eq word (codes "once") then Some Once
-    else (if bytes_eq word (codes "serve") then Some (Serve (2 ^ 62))
+    else (if bytes_eq word (codes "serve") then Some (Serve 1 (2 ^ 62))
     else (if bytes_eq word (codes "check") then Some Check
     else (if bytes_eq word (codes "upgrade") then Some Upgrade
     else (if bytes_eq word (codes "explain") then Some Explain else None))))
@@ -87,10 +89,43 @@ turns_at number = if nat_le 1 number && nat_le number (2 ^ 62) then Some number 
 abbrev pub turns_of : List ℕ → Option ℕ
 turns_of word = option_and_then turns_at (number_of word)
 
--- the turns that a task says are so many at most
-abbrev pub HasTurns : Form → Type 0
-HasTurns (Does (Serve turns) place) = turns ≤ 2 ^ 62
-HasTurns _ = Unit {0}
+-- how many loops there are: 1 to 16
+abbrev pub loops_at : ℕ → Option ℕ
+loops_at number = if nat_le 1 number && nat_le number 16 then Some number else None
+
+abbrev pub loops_of : List ℕ → Option ℕ
+loops_of word = option_and_then loops_at (number_of word)
+
+-- an option of `serve`
+abbrev pub option_of : List ℕ → List ℕ → Option ServeOption
+option_of name number =
+    if bytes_eq name (codes "--loops") then option_map Loops (loops_of number)
+    else (if bytes_eq name (codes "--turns") then option_map Turns (turns_of number) else None)
+
+-- with no option `serve` has one loop of 2^62 turns
+abbrev pub with_one : Option ServeOption → Option Task
+with_one (Some (Loops loops)) = Some (Serve loops (2 ^ 62))
+with_one (Some (Turns turns)) = Some (Serve 1 turns)
+with_one None = None
+
+-- each option stands once at most, in any order
+abbrev pub with_two : Option ServeOption → Option ServeOption → Option Task
+with_two (Some (Loops loops)) (Some (Turns turns)) = Some (Serve loops turns)
+with_two (Some (Turns turns)) (Some (Loops loops)) = Some (Serve loops turns)
+with_two _ _ = None
+
+-- the numbers that an option, a task and a form say are in their ranges
+abbrev pub IsOption : ServeOption → Type 0
+IsOption (Loops loops) = (0 < loops) × (loops ≤ 16)
+IsOption (Turns turns) = turns ≤ 2 ^ 62
+
+abbrev pub IsTask : Task → Type 0
+IsTask (Serve loops turns) = (0 < loops) × (loops ≤ 16) × (turns ≤ 2 ^ 62)
+IsTask _ = Unit {0}
+
+abbrev pub IsInRange : Form → Type 0
+IsInRange (Does task place) = IsTask task
+IsInRange _ = Unit {0}
 
 abbrev pub form_alone : List ℕ → Option Form
 form_alone word =
@@ -99,18 +134,16 @@ form_alone word =
 abbrev pub form_of_two : List ℕ → List ℕ → Option Form
 form_of_two first second = option_and_then (λ task. option_map (Does task) (place_of second)) (task_of first)
 
-abbrev pub is_with_turns : List ℕ → List ℕ → Bool
-is_with_turns first third = bytes_eq first (codes "serve") && bytes_eq third (codes "--turns")
-
-abbrev pub form_with_turns : List ℕ → List ℕ → Option Form
-form_with_turns second fourth = option_and_then (λ place. option_map (λ turns. Does (Serve turns) place) (turns_of fourth)) (place_of second)
-
-abbrev pub form_of_four : List ℕ → List ℕ → List ℕ → List ℕ → Option Form
-form_of_four first second third fourth = if is_with_turns first third then form_with_turns second fourth else None
+-- `serve SITE` with options
+abbrev pub form_of_serve : List ℕ → List ℕ → Option Task → Option Form
+form_of_serve first second task =
+    if bytes_eq first (codes "serve") then option_and_then (λ task. option_map (Does task) (place_of second)) task else None
 
 -- The form that the words after the program's name have.
 abbrev pub form_of : List (String Global) → Option Form
 form_of (word ∷ []) = form_alone (string_bytes word)
 form_of (first ∷ second ∷ []) = form_of_two (string_bytes first) (string_bytes second)
-form_of (first ∷ second ∷ third ∷ fourth ∷ []) = form_of_four (string_bytes first) (string_bytes second) (string_bytes third) (string_bytes fourth)
+form_of (first ∷ second ∷ name ∷ number ∷ []) = form_of_serve (string_bytes first) (string_bytes second) (with_one (option_of (string_bytes name) (string_bytes number)))
+form_of (first ∷ second ∷ name ∷ number ∷ name' ∷ number' ∷ []) =
+    form_of_serve (string_bytes first) (string_bytes second) (with_two (option_of (string_bytes name) (string_bytes number)) (option_of (string_bytes name') (string_bytes number')))
 form_of _ = None

@@ -3,12 +3,8 @@
 
 mod explaining;
 mod report;
-mod serve;
 mod sites;
 mod top;
 mod words;
 
 pub use top::{Status, run};
-
-#[cfg(test)]
-mod tests;

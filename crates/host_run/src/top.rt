@@ -1,5 +1,5 @@
 // The top call.
-ghost use Rattle.std.specs.Prelude.{◌≡◌, ◌≤◌, ◌^◌, ◌↔◌, None, Some, true, false};
+ghost use Rattle.std.specs.Prelude.{◌≡◌, ◌<◌, ◌≤◌, ◌^◌, ◌↔◌, None, Some, true, false};
 ghost use Rattle.host_base.specs.Outsides.{Rose};
 ghost use Rattle.host_base.specs.SiteRules.{IsServed};
 ghost use Rattle.host_trace.specs.Entries.{Enters, entry_of};
@@ -7,15 +7,15 @@ ghost use Rattle.host_run.specs.Entered.{EntersAt};
 ghost use Rattle.host_run.specs.Explains.{ExplainsAt};
 ghost use Rattle.host_run.specs.Given.{GivesAt, GivesBy};
 ghost use Rattle.host_run.specs.Statuses.{InOrder, ReadsBy, ReportsBy, SitesBy, enters_world, is_run, reads_store, writes_report};
-ghost use Rattle.host_run.specs.Words.{Does, HasTurns, form_of, place_at};
+ghost use Rattle.host_run.specs.Words.{Does, IsTask, form_of, place_at};
 
 use super::explaining::run_explain;
 use super::report::{HELP, VERSION, check, put, upgrade};
-use super::serve::serve_site;
 use super::sites::site_at;
 use super::words::{Command, Place, TURNS, Task, form_of};
 use host_base::{Sink, Site, SiteStore};
 use host_loop::{LoopEnd, WorldEnd};
+use host_serve::serve_site;
 use host_trace::{Mode, World};
 use site_file::SiteFault;
 use std::alloc::Global;
@@ -41,17 +41,27 @@ pub enum Status {
     NoMemory,
 }
 
-// Serves the connections of one loop.
-fn run_loop<W: World>(alloc: Global, mode: Mode, site: &Site, turns: u64, world: &mut W) -> Status
+// Serves the connections of so many loops.
+fn run_loops<R: Threads + Sync, W: World>(
+    rt: &R,
+    alloc: Global,
+    mode: Mode,
+    site: &Site,
+    loops: u32,
+    turns: u64,
+    world: &mut W,
+) -> Status
+    requires loops { 0 < loops }
+    requires once { mode ≡ Mode.Once → loops ≡ 1 }
     requires turns { turns ≤ 2 ^ 62 }
     requires served { IsServed site.now }
     ensures status { is_run result ≡ true }
-    ensures gives { GivesBy (λ s. s ≡ site.now) turns result (W.given world.old) (W.given world.new) }
-    ensures entered { Enters (W.entries world.old) (entry_of mode site.now 1) (W.entries world.new) }
+    ensures gives { GivesBy (λ s. s ≡ site.now) loops turns result (W.given world.old) (W.given world.new) }
+    ensures entered { Enters (W.entries world.old) (entry_of mode site.now loops) (W.entries world.new) }
     ensures out { W.out world.new ≡ W.out world.old }
     ensures failed { result ≡ Status.WorldRefused → Rose (W.faults world.old) (W.faults world.new) }
 {
-    match serve_site(alloc, mode, site, turns, world) {
+    match serve_site(rt, alloc, mode, site, loops, turns, world) {
         WorldEnd::Refused => Status::WorldRefused,
         WorldEnd::Unentered => Status::NoMemory,
         WorldEnd::Ended(LoopEnd::Done) => Status::Done,
@@ -61,7 +71,8 @@ fn run_loop<W: World>(alloc: Global, mode: Mode, site: &Site, turns: u64, world:
 }
 
 // Does a task with the site that is said at a place.
-fn run_at<F: SiteStore, S: Sink, W: World>(
+fn run_at<R: Threads + Sync, F: SiteStore, S: Sink, W: World>(
+    rt: &R,
     alloc: Global,
     task: Task,
     place: &Place,
@@ -69,7 +80,7 @@ fn run_at<F: SiteStore, S: Sink, W: World>(
     report: &mut S,
     world: &mut W,
 ) -> Status
-    requires turns { HasTurns (Does task (place_at place.now)) }
+    requires { IsTask task }
     ensures site { ReadsBy (F.stored store.old) (place_at place.now) result }
     ensures gives { GivesAt (F.stored store.old) (Some (Does task (place_at place.now))) result (W.given world.old) (W.given world.new) }
     ensures entered { EntersAt (F.stored store.old) (Some (Does task (place_at place.now))) result (W.entries world.old) (W.entries world.new) }
@@ -89,8 +100,10 @@ fn run_at<F: SiteStore, S: Sink, W: World>(
         Err(status) => return status,
     };
     match task {
-        Task::Once => run_loop(alloc, Mode::Once, &site, TURNS, world),
-        Task::Serve(turns) => run_loop(alloc, Mode::Serve, &site, turns, world),
+        Task::Once => run_loops(rt, alloc, Mode::Once, &site, 1, TURNS, world),
+        Task::Serve { loops, turns } => {
+            run_loops(rt, alloc, Mode::Serve, &site, loops, turns, world)
+        }
         Task::Check => check(alloc, &site, report),
         Task::Upgrade => upgrade(alloc, &site, report),
         Task::Explain => run_explain(alloc, &site, report, world),
@@ -100,16 +113,16 @@ fn run_at<F: SiteStore, S: Sink, W: World>(
 /// Runs the host by the words that follow the program's name. SITE is PATH=PROGRAM, which needs no file, or
 /// the name of a site file, which is read from the store.
 ///
-/// - `once SITE` serves one connection of the world, and `serve SITE`, perhaps with `--turns N`, its sockets in one loop,
-///   until N events were heard. They write no report.
+/// - `once SITE` serves one connection of the world, and `serve SITE` its sockets: in one loop, or with `--loops N` in N,
+///   each in a thread of its own, and with `--turns N` until each loop heard N events. They write no report.
 /// - `check SITE` reports how many scripts the site has, and `upgrade SITE` the site as a version 2 file.
 /// - `explain SITE` asks the client of one connection for its first request and reports what would be started for it, or
 ///   how it would be refused. Nothing is started, and nothing is written to the client.
 /// - `--help` and `--version` report what they say.
 ///
-/// No thread is started.
+/// Threads are started for several loops alone.
 pub fn run<R: Threads + Sync, F: SiteStore, S: Sink, W: World>(
-    _rt: &R,
+    rt: &R,
     alloc: Global,
     words: &[String],
     store: &mut F,
@@ -132,7 +145,9 @@ pub fn run<R: Threads + Sync, F: SiteStore, S: Sink, W: World>(
     ensures no_report { writes_report (form_of words.now) ≡ false → report.new ≡ report.old }
 {
     match form_of(words) {
-        Some(Command::Does(task, place)) => run_at(alloc, task, &place, store, report, world),
+        Some(Command::Does(task, place)) => {
+            run_at(rt, alloc, task, &place, store, report, world)
+        }
         Some(Command::Help) => put(report, HELP),
         Some(Command::Version) => put(report, VERSION),
         None => Status::Usage,

@@ -1,8 +1,8 @@
 // The words of the command line.
-ghost use Rattle.std.specs.Prelude.{◌≡◌, ◌≤◌, ◌^◌, IfSome, MatchOption, None, Some, option_map};
+ghost use Rattle.std.specs.Prelude.{◌≡◌, ◌<◌, ◌≤◌, ◌^◌, IfSome, MatchOption, None, Some, option_map};
 ghost use Rattle.std.specs.Char.{is_ascii_digit};
 ghost use Rattle.std.specs.List.{list_all};
-ghost use Rattle.host_run.specs.Words.{HasTurns, file_of, form_alone, form_at, form_of, form_of_four, form_of_two, form_with_turns, is_number, is_with_turns, number_of, parts_of, place_at, place_of, place_of_parts, script_of, task_of, turns_at, turns_of};
+ghost use Rattle.host_run.specs.Words.{IsInRange, IsOption, IsTask, file_of, form_alone, form_at, form_of, form_of_serve, form_of_two, is_number, loops_at, loops_of, number_of, option_of, parts_of, place_at, place_of, place_of_parts, script_of, task_of, turns_at, turns_of, with_one, with_two};
 
 use site_file::{is_program, is_script_path};
 
@@ -10,15 +10,25 @@ use site_file::{is_program, is_script_path};
 #[derive(Clone, Copy, Debug, PartialEq, Eq)]
 pub enum Task {
     Once,
-    /// Over sockets, with so many turns.
-    Serve(u64),
+    /// Over sockets, in so many loops with so many turns each.
+    Serve { loops: u32, turns: u64 },
     Check,
     Upgrade,
     Explain,
 }
 
+// The greatest number of loops.
+const LOOPS: u64 = 16;
+
 // The greatest number of turns.
 pub const TURNS: u64 = 1 << 62;
+
+// An option of `serve`.
+#[derive(Clone, Copy, Debug)]
+enum ServeOption {
+    Loops(u32),
+    Turns(u64),
+}
 
 /// Where a site is said.
 #[derive(Clone, Copy, Debug)]
@@ -79,7 +89,10 @@ fn task_of(word: &str) -> Option<Task>
     if word == "once" {
         Some(Task::Once)
     } else if word == "serve" {
-        Some(Task::Serve(TURNS))
+        Some(Task::Serve {
+            loops: 1,
+            turns: TURNS,
+        })
     } else if word == "check" {
         Some(Task::Check)
     } else if word == "upgrade" {
@@ -125,33 +138,86 @@ fn turns_of(word: &str) -> Option<u64>
     }
 }
 
+fn loops_of(word: &str) -> Option<u32>
+    ensures exact { result ≡ loops_of word.now }
+    ensures some { IfSome result (λ loops. 0 < loops) }
+    ensures few { IfSome result (λ loops. loops ≤ 16) }
+{
+    let number = number_of(word)?;
+    if number >= 1 && number <= LOOPS {
+        Some(number as u32)
+    } else {
+        None
+    }
+}
+
+fn option_of(name: &str, number: &str) -> Option<ServeOption>
+    ensures exact { result ≡ option_of name.now number.now }
+    ensures range { IfSome result IsOption }
+{
+    if name == "--loops" {
+        Some(ServeOption::Loops(loops_of(number)?))
+    } else if name == "--turns" {
+        Some(ServeOption::Turns(turns_of(number)?))
+    } else {
+        None
+    }
+}
+
+// The task of `serve` with one option.
+fn with_one(option: Option<ServeOption>) -> Option<Task>
+    requires { IfSome option IsOption }
+    ensures exact { result ≡ with_one option }
+    ensures range { IfSome result IsTask }
+{
+    match option? {
+        ServeOption::Loops(loops) => Some(Task::Serve {
+            loops,
+            turns: TURNS,
+        }),
+        ServeOption::Turns(turns) => Some(Task::Serve { loops: 1, turns }),
+    }
+}
+
+// .. with two, which are not one twice.
+fn with_two(one: Option<ServeOption>, other: Option<ServeOption>) -> Option<Task>
+    requires one { IfSome one IsOption }
+    requires other { IfSome other IsOption }
+    ensures exact { result ≡ with_two one other }
+    ensures range { IfSome result IsTask }
+{
+    match (one?, other?) {
+        (ServeOption::Loops(loops), ServeOption::Turns(turns)) => {
+            Some(Task::Serve { loops, turns })
+        }
+        (ServeOption::Turns(turns), ServeOption::Loops(loops)) => {
+            Some(Task::Serve { loops, turns })
+        }
+        _ => None,
+    }
+}
+
 fn form_of_two<'w>(first: &str, second: &'w str) -> Option<Command<'w>>
     ensures exact { option_map form_at result ≡ form_of_two first.now second.entry.now }
-    ensures turns { IfSome result (λ command. HasTurns (form_at command)) }
+    ensures range { IfSome result (λ command. IsInRange (form_at command)) }
 {
     let task = task_of(first)?;
     let place = place_of(second)?;
     Some(Command::Does(task, place))
 }
 
-fn form_with_turns<'w>(second: &'w str, fourth: &str) -> Option<Command<'w>>
-    ensures exact { option_map form_at result ≡ form_with_turns second.entry.now fourth.now }
-    ensures turns { IfSome result (λ command. HasTurns (form_at command)) }
+// The form of `serve SITE` with options that ask for a task.
+fn form_of_serve<'w>(first: &str, second: &'w str, task: Option<Task>) -> Option<Command<'w>>
+    requires { IfSome task IsTask }
+    ensures exact { option_map form_at result ≡ form_of_serve first.now second.entry.now task }
+    ensures range { IfSome result (λ command. IsInRange (form_at command)) }
 {
-    let place = place_of(second)?;
-    let turns = turns_of(fourth)?;
-    Some(Command::Does(Task::Serve(turns), place))
-}
-
-fn form_of_four<'w>(first: &str, second: &'w str, third: &str, fourth: &str) -> Option<Command<'w>>
-    ensures exact { option_map form_at result ≡ form_of_four first.now second.entry.now third.now fourth.now }
-    ensures turns { IfSome result (λ command. HasTurns (form_at command)) }
-{
-    if first == "serve" && third == "--turns" {
-        form_with_turns(second, fourth)
-    } else {
-        None
+    if first != "serve" {
+        return None;
     }
+    let task = task?;
+    let place = place_of(second)?;
+    Some(Command::Does(task, place))
 }
 
 fn form_alone(word: &str) -> Option<Command<'static>>
@@ -169,17 +235,20 @@ fn form_alone(word: &str) -> Option<Command<'static>>
 /// What the words after the program's name ask for, where they have a form.
 pub fn form_of(words: &[String]) -> Option<Command<'_>>
     ensures exact { option_map form_at result ≡ form_of words.now }
-    ensures turns { IfSome result (λ command. HasTurns (form_at command)) }
+    ensures range { IfSome result (λ command. IsInRange (form_at command)) }
 {
     match words {
         [word] => form_alone(word.as_str()),
         [first, second] => form_of_two(first.as_str(), second.as_str()),
-        [first, second, third, fourth] => form_of_four(
-            first.as_str(),
-            second.as_str(),
-            third.as_str(),
-            fourth.as_str(),
-        ),
+        [first, second, name, number] => {
+            let option = option_of(name.as_str(), number.as_str());
+            form_of_serve(first.as_str(), second.as_str(), with_one(option))
+        }
+        [first, second, name, number, other_name, other_number] => {
+            let one = option_of(name.as_str(), number.as_str());
+            let other = option_of(other_name.as_str(), other_number.as_str());
+            form_of_serve(first.as_str(), second.as_str(), with_two(one, other))
+        }
         _ => None,
     }
 }

@@ -1,1 +1,3 @@
 pub mod GoodLaws
+mod PlaceLaws
+mod LaneLaws

@@ -1,6 +1,12 @@
-//! The loop over the connections of this server, with what is promised of every trace that a world tells of it.
+//! The loops over the connections of this server, with what is promised of every trace that a world tells of them.
 #![tactic(auto)]
 
-mod serve;
+mod all;
+mod site;
 
-pub use serve::serve_site;
+pub use all::serve_all;
+pub use host_conns::HostConn;
+pub use site::serve_site;
+
+#[cfg(test)]
+mod tests;

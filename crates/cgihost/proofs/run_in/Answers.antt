@@ -2,6 +2,11 @@ use denote.Param.Send.{sendable}
 use Rattle.std.proofs.Crossing.{crosses}
 use Rattle.std_spawner.proofs.Crosses.{belled_send, spawner_send, kid_send}
 use Rattle.once_edge.proofs.Crosses.{once_send}
+use Rattle.net_sockets.proofs.ports.NetPorts.TheSendSync as ports
+use Rattle.net_sockets.proofs.socket.TcpSocket.TheSendSync as socket
+use Rattle.net_edge.proofs.stdin.StdinOrders.TheSendSync as orders
+use Rattle.real_world.proofs.outside.Either.TheSendSync as either
+use Rattle.real_world.proofs.Crosses.{loop_send}
 use Rattle.cgihost.proofs.run_in.Goals as goal
 
 pub run-requires-send-W-Out : goal.run-requires-send-W-Out
@@ -9,4 +14,6 @@ run-requires-send-W-Out g c κs within =
     let r = c.type_bounds.send-R in
     let t = c.type_bounds.send-T in
     let k = c.type_bounds.send-K in
-    search (sendable, crosses, once_send, spawner_send, kid_send, belled_send) depth 30 fits 20000
+    let l = c.type_bounds.send-L in
+    let y = c.type_bounds.sync-L in
+    search (sendable, crosses, either.the_field_send, once_send, loop_send, spawner_send, kid_send, belled_send, ports.the_field_send, socket.the_field_send, orders.the_field_send) depth 40 fits 50000

@@ -1,6 +1,6 @@
 -- Each turn goes on, or is the last one.
 use Rattle.std.proofs.Common.{[], None}
-use Rattle.explain.proofs.StartLaws.{ended_by, going, on_by, stands_first}
+use Rattle.explain.proofs.StartLaws.{ended_by, going, lost_by, on_by, stands_first}
 use Rattle.explain.proofs.explain.explain_one.Goals as goal
 
 pub loop-init : goal.loop-init
@@ -30,7 +30,14 @@ pub returns-in-NoMemory-clause-asks : goal.returns-in-NoMemory-clause-asks
 returns-in-NoMemory-clause-asks g c = λ T told.
     let before = c.turn.ensures.tells T told in
     let now = c.turn.ensures.told c.args.site.now c.loop.counter before.0 T before.1 (c.loop.invariant.stands before.0 before.1) told in
-    rw c.in-NoMemory.is at now
+    let lost = rw c.in-NoMemory.is at now in lost.alone
+
+pub returns-in-NoMemory-clause-ends : goal.returns-in-NoMemory-clause-ends
+returns-in-NoMemory-clause-ends g c = λ T told.
+    let before = c.turn.ensures.tells T told in
+    let now = c.turn.ensures.told c.args.site.now c.loop.counter before.0 T before.1 (c.loop.invariant.stands before.0 before.1) told in
+    let lost = rw c.in-NoMemory.is at now in
+    lost_by c.args.site.now c.args.turns c.loop.counter T c.loop-test.true lost
 
 pub loop-preserved : goal.loop-preserved
 loop-preserved g c =

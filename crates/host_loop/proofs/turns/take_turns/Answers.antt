@@ -1,5 +1,5 @@
 -- Each turn is a step of the core.
-use Rattle.std.proofs.Common.{rules, ◌≡◌, List, Some, sym, ◌∙◌, subst, true, false, refl, arith}
+use Rattle.std.proofs.Common.{rules, ◌≡◌, List, Some, sym, ◌∙◌, subst, false, arith}
 use Rattle.host_trace.specs.declared.items.Item.{Item}
 use Rattle.host_trace.specs.Projections.{stopped}
 use Rattle.host_trace.specs.Account.{all_settled}
@@ -7,7 +7,7 @@ use Rattle.all_conns.proofs.GoodLaws.{stands_good}
 use Rattle.all_conns.specs.Stands.{Good}
 use Rattle.host_loop.specs.Served.{is_over}
 use Rattle.host_loop.proofs.OverLaws.{and_true, never_over, first_over, not_settled, not_stopped}
-use Rattle.host_loop.proofs.TurnLaws.{turned}
+use Rattle.host_loop.proofs.TurnLaws.{told_still, turned}
 use Rattle.host_loop.proofs.turns.take_turns.Goals.{else-stopped-via-then-stopped+else-all_settled, else-stopped-via-else-stopped}
 use Rattle.host_loop.proofs.turns.take_turns.Goals as goal
 
@@ -19,6 +19,9 @@ returns-then-all_settled-clause-served g c =
       good = λ T told. subst (λ s. Good g.C.Connection.kind s T) (c.step.ensures.site ∙ c.loop-turn.invariant.site) (stands_good g.met.C.Connection.laws c.step.new.self T (t T told).stands);
       served = λ T told. record { over = over T told; first = first_over T (t T told).first (over T told); within = rw (t T told).count (omega (arith, c.loop-turn-test.true)) };
     }
+
+pub returns-then-all_settled-clause-told : goal.returns-then-all_settled-clause-told
+returns-then-all_settled-clause-told g c = told_still (g.O.Outside.trace c.args.out.now) (g.O.Outside.trace c.loop-turn.out) (g.O.Outside.trace c.next-ev.new.self) (g.O.Outside.trace c.step.new.out) _ _ c.loop-turn.invariant.told c.next-ev.ensures.told c.step.ensures.told
 
 pub loop-turn-preserved : goal.loop-turn-preserved
 loop-turn-preserved g c =
@@ -36,6 +39,7 @@ loop-turn-preserved g c =
       accepted = omega (arith, c.step.ensures.count.accepted, c.loop-turn.invariant.accepted);
       site = c.step.ensures.site ∙ c.loop-turn.invariant.site;
       limit = c.step.ensures.limit ∙ (c.next-ev.ensures.limit ∙ c.loop-turn.invariant.limit);
+      told = told_still (g.O.Outside.trace c.args.out.now) (g.O.Outside.trace c.loop-turn.out) (g.O.Outside.trace c.next-ev.new.self) (g.O.Outside.trace c.step.new.out) _ _ c.loop-turn.invariant.told c.next-ev.ensures.told c.step.ensures.told;
     }
 
 pub returns-clause-served : goal.returns-clause-served

@@ -1,9 +1,11 @@
--- The core stands for what was told so far, which has as many events as there were turns; it accepted no more connections.
+-- The core stands for what was told so far, which has as many events as there were turns; it accepted no more connections, and what
+-- is told was told at first.
 use Rattle.std.specs.Prelude.{◌≡◌, ◌≤◌, List, Some, false}
 use Rattle.host_trace.specs.declared.items.Item.{Item}
 use Rattle.host_trace.specs.Projections.{event_count}
 use Rattle.all_conns.specs.Owners.{Sound, served}
 use Rattle.all_conns.specs.Stands.{Stands}
+use Rattle.host_loop.specs.Loops.{WasTold}
 use Rattle.host_loop.specs.Served.{is_over, over_count}
 use Rattle.host_loop.proofs.turns.take_turns.Given as goal
 
@@ -17,4 +19,5 @@ invariant-loop-turn g l = record {
   accepted : l.core.accepted ≤ l.turn;
   site : served l.core ≡ served l.initial.core;
   limit : g.O.Outside.limit l.out ≡ (served l.initial.core).limits.children;
+  told : WasTold (g.O.Outside.trace l.initial.out) (g.O.Outside.trace l.out);
 }

@@ -19,16 +19,16 @@ returns-clause-explains g c =
     rw c.in-Explain.is (explains_as _ _ _ _ _ (λ site is. subst (λ s. Says (g.F.SiteStore.stored c.args.store.now) (place_at c.args.place.now) (Ok s)) (sym is) says) c.run_explain.ensures.explains)
 
 pub returns-in-Once-clause-entered : goal.returns-in-Once-clause-entered
-returns-in-Once-clause-entered g c = rw c.in-Once.is (entered_by _ _ c.in-Ok.site _ _ _ (run_explains _ c.run_loop.ensures.status) c.in-Ok.ensures.site c.run_loop.ensures.entered)
+returns-in-Once-clause-entered g c = rw c.in-Once.is (entered_by _ _ _ c.in-Ok.site _ _ _ (run_explains _ c.run_loops.ensures.status) c.in-Ok.ensures.site c.run_loops.ensures.entered)
 
 pub returns-clause-entered : goal.returns-clause-entered
-returns-clause-entered g c = rw c.in-Explain.is (entered_by _ _ c.in-Ok.site _ _ _ c.run_explain.ensures.status c.in-Ok.ensures.site c.run_explain.ensures.entered)
+returns-clause-entered g c = rw c.in-Explain.is (entered_by _ _ _ c.in-Ok.site _ _ _ c.run_explain.ensures.status c.in-Ok.ensures.site c.run_explain.ensures.entered)
 
 pub returns-in-Once-clause-gives : goal.returns-in-Once-clause-gives
-returns-in-Once-clause-gives g c = rw c.in-Once.is (gives_by _ c.in-Ok.site c.in-Ok.ensures.site _ _ _ _ c.run_loop.ensures.gives)
+returns-in-Once-clause-gives g c = rw c.in-Once.is (gives_by _ c.in-Ok.site c.in-Ok.ensures.site _ _ _ _ _ c.run_loops.ensures.gives)
 
 pub returns-in-Serve-clause-entered : goal.returns-in-Serve-clause-entered
-returns-in-Serve-clause-entered g c = rw c.in-Serve.is (entered_by _ _ c.in-Ok.site _ _ _ (run_explains _ c.run_loop-in-Serve.ensures.status) c.in-Ok.ensures.site c.run_loop-in-Serve.ensures.entered)
+returns-in-Serve-clause-entered g c = rw c.in-Serve.is (entered_by _ _ _ c.in-Ok.site _ _ _ (run_explains _ c.run_loops-in-Serve.ensures.status) c.in-Ok.ensures.site c.run_loops-in-Serve.ensures.entered)
 
 pub returns-in-Serve-clause-gives : goal.returns-in-Serve-clause-gives
-returns-in-Serve-clause-gives g c = rw c.in-Serve.is (gives_by _ c.in-Ok.site c.in-Ok.ensures.site _ _ _ _ c.run_loop-in-Serve.ensures.gives)
+returns-in-Serve-clause-gives g c = rw c.in-Serve.is (gives_by _ c.in-Ok.site c.in-Ok.ensures.site _ _ _ _ _ c.run_loops-in-Serve.ensures.gives)

@@ -1,5 +1,0 @@
--- An act that carries nothing is done.
-use Rattle.host_core.proofs.machine.act.give_plain.Goals as goal
-
-pub returns-clause-told : goal.returns-clause-told
-returns-clause-told g c = rw (c.act.ensures.room c.requires) at c.act.ensures.told
