@@ -19,6 +19,3 @@ pub use laws::{
 pub use place::Place;
 pub use step::ChunkStep;
 pub use words::{count_field_words, has_other_word};
-
-#[cfg(test)]
-mod tests;

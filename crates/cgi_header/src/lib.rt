@@ -13,6 +13,3 @@ pub use laws::{
     faults_are_first, headers_are_read, headers_stay, more_is_open, wholes_are_headers,
 };
 pub use read::{missing_cause, read_header};
-
-#[cfg(test)]
-mod tests;

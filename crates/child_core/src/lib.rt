@@ -29,6 +29,3 @@ pub use tell_laws::{
     acts_offer_nothing, fits_behind, fits_may_come, knows_behind, others_are_known,
     others_change_nothing, others_may_come, settled_is_exact, wants_more_is_exact,
 };
-
-#[cfg(test)]
-mod tests;

@@ -14,6 +14,3 @@ pub use laws::{
 };
 pub use read::{read_head, read_head_from};
 pub use step::HeadStep;
-
-#[cfg(test)]
-mod tests;

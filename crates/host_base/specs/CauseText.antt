@@ -1,7 +1,7 @@
 -- The status code and the text of each cause.
 use Rattle.std.specs.Prelude.{ℕ, List, codes}
 use Rattle.host_base.specs.declared.cause.Cause.{Cause}
-use Rattle.host_base.specs.declared.cause.Cause.TheVariants.{BadHead, Incomplete, BadTarget, BadHost, BadFraming, BadChunk, BadPath, BadHandshake, BadScgi, BadParams, BadRecord, OriginRefused, NoScript, IdleTime, BodyTooLong, TargetTooLong, BadExpect, UnknownHost, UpgradeNeeded, HeadTooLong, TooManyFields, RedirectLoop, NotServed, CodingUnknown, NotBuilt, StartFailed, OutputBroken, OutputTooLarge, NoOutput, HeaderIncomplete, HeaderTooLarge, HeaderLine, HeaderRepeated, BadStatus, BadLocation, NoneOfThree, Full, RunTime}
+use Rattle.host_base.specs.declared.cause.Cause.TheVariants.{BadHead, Incomplete, BadTarget, BadHost, BadFraming, BadChunk, BadPath, BadHandshake, BadScgi, BadParams, BadRecord, OriginRefused, NoScript, IdleTime, BodyTooLong, TargetTooLong, BadExpect, UnknownHost, UpgradeNeeded, HeadTooLong, TooManyFields, RedirectLoop, NotServed, CodingUnknown, StartFailed, OutputBroken, OutputTooLarge, NoOutput, HeaderIncomplete, HeaderTooLarge, HeaderLine, HeaderRepeated, BadStatus, BadLocation, NoneOfThree, Full, RunTime}
 
 -- the status code (RFC 9110 15)
 abbrev pub status_of : Cause → ℕ
@@ -29,7 +29,6 @@ status_of TooManyFields = 431
 status_of RedirectLoop = 500
 status_of NotServed = 501
 status_of CodingUnknown = 501
-status_of NotBuilt = 501
 status_of StartFailed = 502
 status_of OutputBroken = 502
 status_of OutputTooLarge = 502
@@ -70,7 +69,6 @@ text_of TooManyFields = codes "too many header fields"
 text_of RedirectLoop = codes "too many local redirects"
 text_of NotServed = codes "method or target not served"
 text_of CodingUnknown = codes "transfer coding not served"
-text_of NotBuilt = codes "not built"
 text_of StartFailed = codes "script could not be started"
 text_of OutputBroken = codes "script output broken"
 text_of OutputTooLarge = codes "script output too large"

@@ -52,8 +52,6 @@ pub enum Cause {
     NotServed,
     /// A transfer coding other than chunked (RFC 9112 6.1).
     CodingUnknown,
-    /// What this version does not serve yet.
-    NotBuilt,
     /// The script's program could not be started.
     StartFailed,
     /// Reading the script's output failed.
@@ -111,7 +109,7 @@ impl Cause {
             Cause::UpgradeNeeded => 426,
             Cause::HeadTooLong | Cause::TooManyFields => 431,
             Cause::RedirectLoop => 500,
-            Cause::NotServed | Cause::CodingUnknown | Cause::NotBuilt => 501,
+            Cause::NotServed | Cause::CodingUnknown => 501,
             Cause::StartFailed
             | Cause::OutputBroken
             | Cause::OutputTooLarge
@@ -157,7 +155,6 @@ impl Cause {
             Cause::RedirectLoop => "too many local redirects",
             Cause::NotServed => "method or target not served",
             Cause::CodingUnknown => "transfer coding not served",
-            Cause::NotBuilt => "not built",
             Cause::StartFailed => "script could not be started",
             Cause::OutputBroken => "script output broken",
             Cause::OutputTooLarge => "script output too large",

@@ -26,6 +26,3 @@ pub use sequence::{Bytes, Sequence};
 pub use site::{DocRoot, Docs, Hosts, Mapped, Script, ScriptKind, Scripts, Site, VHost};
 pub use text::{Text, Texts};
 pub use traits::{Sink, SinkFault, SiteStore, StoreFault};
-
-#[cfg(test)]
-mod tests;

@@ -6,8 +6,6 @@ mod laws;
 mod message;
 mod reading;
 mod step;
-#[cfg(test)]
-mod tests;
 
 pub use input::input_line;
 pub use laws::{lines_join, long_lines_are_runs, outputs_are_lines, texts_are_themselves};

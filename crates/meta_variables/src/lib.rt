@@ -13,6 +13,3 @@ pub use gateway::gateway_launch;
 pub use laws::{environments_are_safe, gateway_environments_are_safe};
 pub use request_variables::environment;
 pub use start::launch;
-
-#[cfg(test)]
-mod tests;

@@ -12,6 +12,3 @@ pub use kind::{ReplyKind, kind_of};
 pub use laws::{begun_replies_go_on, others_stay, replies_are_fit};
 pub use output::derive;
 pub use reply::reply_of;
-
-#[cfg(test)]
-mod tests;

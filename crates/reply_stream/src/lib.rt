@@ -7,8 +7,6 @@ mod open;
 mod pieces;
 mod stage;
 mod stream;
-#[cfg(test)]
-mod tests;
 
 pub use asked::Asked;
 pub use laws::{beginnings_stay, standings_hold};

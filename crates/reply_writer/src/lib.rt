@@ -7,8 +7,6 @@ mod fault;
 mod laws;
 mod phrases;
 mod shape;
-#[cfg(test)]
-mod tests;
 mod text;
 mod whole_laws;
 

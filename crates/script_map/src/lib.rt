@@ -21,6 +21,3 @@ pub use mapping::{decode_text, map, map_decoded};
 pub use redirects::{authority_host, is_local, path_target, redirect_target};
 pub use segments::{is_dot_segment, remove_dot_segments};
 pub use split::split_target;
-
-#[cfg(test)]
-mod tests;

@@ -7,6 +7,3 @@ mod words;
 
 pub use laws::words_are_a_search_string;
 pub use words::{MOST_WORDS, Words, words_of};
-
-#[cfg(test)]
-mod tests;

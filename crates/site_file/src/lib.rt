@@ -22,6 +22,3 @@ pub use one::one_script;
 pub use ranges::{is_program, is_script_path};
 pub use site::read_site;
 pub use write::write_site;
-
-#[cfg(test)]
-mod tests;

@@ -1,0 +1,2 @@
+// What the shared types give.
+mod types;

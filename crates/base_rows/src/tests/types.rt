@@ -1,0 +1,352 @@
+// What no clause says: the tables of causes and limits against the texts that they come from, edge cases of
+// the helpers, and that each call that takes memory can succeed.
+use host_base::*;
+use std::alloc::Global;
+use std::process::Abort;
+use std::test::Fail;
+
+// A cause, its status code, its text, and the length of the reply's body, which ends with a line feed.
+type CauseRow = (Cause, u16, &'static str, usize);
+
+const REQUEST_CAUSES: [CauseRow; 19] = [
+    (Cause::BadHead, 400, "bad request head", 17),
+    (Cause::Incomplete, 400, "request ended early", 20),
+    (Cause::BadTarget, 400, "bad target", 11),
+    (Cause::BadHost, 400, "bad host", 9),
+    (Cause::BadFraming, 400, "bad body framing", 17),
+    (Cause::BadChunk, 400, "bad chunk", 10),
+    (Cause::BadPath, 400, "bad path", 9),
+    (Cause::BadHandshake, 400, "bad websocket handshake", 24),
+    (Cause::OriginRefused, 403, "origin refused", 15),
+    (Cause::NoScript, 404, "no script for this path", 24),
+    (Cause::IdleTime, 408, "request took too long", 22),
+    (Cause::BodyTooLong, 413, "request body too large", 23),
+    (Cause::TargetTooLong, 414, "target too long", 16),
+    (Cause::BadExpect, 417, "expectation not met", 20),
+    (
+        Cause::UpgradeNeeded,
+        426,
+        "websocket version 13 required",
+        30,
+    ),
+    (Cause::HeadTooLong, 431, "request head too large", 23),
+    (Cause::TooManyFields, 431, "too many header fields", 23),
+    (Cause::NotServed, 501, "method or target not served", 28),
+    (Cause::CodingUnknown, 501, "transfer coding not served", 27),
+];
+
+const SCRIPT_CAUSES: [CauseRow; 14] = [
+    (Cause::RedirectLoop, 500, "too many local redirects", 25),
+    (Cause::StartFailed, 502, "script could not be started", 28),
+    (Cause::OutputBroken, 502, "script output broken", 21),
+    (Cause::OutputTooLarge, 502, "script output too large", 24),
+    (Cause::NoOutput, 502, "script gave no output", 22),
+    (Cause::HeaderIncomplete, 502, "script header incomplete", 25),
+    (Cause::HeaderTooLarge, 502, "script header too large", 24),
+    (Cause::HeaderLine, 502, "script header line refused", 27),
+    (
+        Cause::HeaderRepeated,
+        502,
+        "script header field repeated",
+        29,
+    ),
+    (Cause::BadStatus, 502, "script status refused", 22),
+    (Cause::BadLocation, 502, "script location refused", 24),
+    (
+        Cause::NoneOfThree,
+        502,
+        "script sent no type, status or location",
+        40,
+    ),
+    // The number seen follows, here of two digits.
+    (Cause::Full { seen: 64 }, 503, "children running: ", 19),
+    (Cause::RunTime, 504, "script took too long", 21),
+];
+
+fn has_row(rt: &impl Abort, (cause, status, text, length): CauseRow) {
+    assert_eq!(rt; cause.status(), status, "{cause:?}");
+    assert_eq!(rt; cause.text(), text, "{cause:?}");
+    assert_eq!(rt; cause.text().len().saturating_add(1), length, "{cause:?}");
+}
+
+#[test]
+fn causes(rt: HostRuntime) {
+    for row in REQUEST_CAUSES {
+        has_row(&rt, row);
+    }
+    for row in SCRIPT_CAUSES {
+        has_row(&rt, row);
+    }
+}
+
+// Two words, and whether they are the same.
+const WORDS: [(&str, &str, bool); 12] = [
+    ("", "", true),
+    ("Host", "hOST", true),
+    ("host", "hosts", false),
+    ("hosts", "host", false),
+    ("AZ", "az", true),
+    ("[", "{", false),
+    ("@", "`", false),
+    ("\\", "|", false),
+    ("_", "\u{7f}", false),
+    ("X-A", "x-a", true),
+    ("X_A", "x-a", false),
+    ("\u{c4}", "\u{e4}", false),
+];
+
+#[test]
+fn words_without_case(rt: HostRuntime) {
+    for (one, other, same) in WORDS {
+        assert_eq!(rt;
+            is_same_word(one.as_bytes(), other.as_bytes()),
+            same,
+            "{one} {other}"
+        );
+    }
+}
+
+// Text, and what is left of it without blanks at its ends. A line end is no blank.
+const TRIMMED: [(&str, &str); 10] = [
+    ("", ""),
+    (" ", ""),
+    ("\t \t", ""),
+    ("a", "a"),
+    ("\ta\t", "a"),
+    (" \t a b\t c \t ", "a b\t c"),
+    ("a \r", "a \r"),
+    ("\n a", "\n a"),
+    ("\u{b}a\u{c}", "\u{b}a\u{c}"),
+    ("\u{a0}a", "\u{a0}a"),
+];
+
+#[test]
+fn blanks(rt: HostRuntime) {
+    for (text, rest) in TRIMMED {
+        assert_eq!(rt; trim(text.as_bytes()), rest.as_bytes(), "{text}");
+    }
+}
+
+// A comma list, a word, and whether the list has it (RFC 9110 5.6.1).
+const LISTED: [(&str, &str, bool); 16] = [
+    ("close", "CLOSE", true),
+    ("keep-alive, Upgrade", "upgrade", true),
+    ("keep-alive,Upgrade", "keep-alive", true),
+    ("a\t,\tb", "b", true),
+    (",, ,close, ,", "close", true),
+    ("", "", false),
+    (" ", "", false),
+    (",", "", false),
+    ("a,,b", "", false),
+    ("a, b", "a, b", false),
+    ("closed", "close", false),
+    ("clos", "close", false),
+    ("not close", "close", false),
+    ("a;close", "close", false),
+    ("a,[", "{", false),
+    ("a,b,c,d", "d", true),
+];
+
+#[test]
+fn comma_lists(rt: HostRuntime) {
+    for (list, word, has) in LISTED {
+        assert_eq!(rt;
+            has_comma_word(list.as_bytes(), word.as_bytes()),
+            has,
+            "{list} {word}"
+        );
+    }
+}
+
+// A byte, its value as a decimal digit, and as a hex digit: each end of a range and its neighbour outside.
+const DIGITS: [(u8, Option<u8>, Option<u8>); 14] = [
+    (b'/', None, None),
+    (b'0', Some(0), Some(0)),
+    (b'9', Some(9), Some(9)),
+    (b':', None, None),
+    (b'@', None, None),
+    (b'A', None, Some(10)),
+    (b'F', None, Some(15)),
+    (b'G', None, None),
+    (b'`', None, None),
+    (b'a', None, Some(10)),
+    (b'f', None, Some(15)),
+    (b'g', None, None),
+    (0, None, None),
+    (255, None, None),
+];
+
+#[test]
+fn digits(rt: HostRuntime) {
+    for (byte, decimal, hex) in DIGITS {
+        assert_eq!(rt; decimal_digit(byte), decimal, "{byte}");
+        assert_eq!(rt; hex_digit(byte), hex, "{byte}");
+    }
+}
+
+fn field(alloc: Global, name: &str, value: &str) -> Result<Field, NoMemory> {
+    let name = Bytes::from_slice(alloc, name.as_bytes())?;
+    let value = Bytes::from_slice(alloc, value.as_bytes())?;
+    Ok(Field { name, value })
+}
+
+fn fields(alloc: Global, lines: &[(&str, &str)]) -> Result<Fields, NoMemory> {
+    let mut fields = Fields::new(alloc);
+    for (name, value) in lines {
+        fields.push(field(alloc, name, value)?)?;
+    }
+    Ok(fields)
+}
+
+const LINES: [(&str, &str); 6] = [
+    ("Host", "a"),
+    ("Connection", "keep-alive, , close"),
+    ("host", "b"),
+    ("Upgrade", "websocket"),
+    ("CONNECTION", "\tUpgrade\t,x"),
+    ("Connection", ""),
+];
+
+// A name, and how many of the lines have it.
+const COUNTED: [(&str, usize); 6] = [
+    ("hOsT", 2),
+    ("connection", 3),
+    ("Upgrade", 1),
+    ("Hos", 0),
+    ("Hosts", 0),
+    ("", 0),
+];
+
+#[test]
+fn lines_of_a_name(rt: HostRuntime) -> Result<(), Fail> {
+    let fields = fields(rt.alloc(), &LINES)?;
+    for (name, count) in COUNTED {
+        assert_eq!(rt; fields.count_named(name.as_bytes()), count, "{name}");
+    }
+    Ok(())
+}
+
+// A name, a word, and whether the list of the field has it.
+const FIELD_WORDS: [(&str, &str, bool); 8] = [
+    ("connection", "KEEP-ALIVE", true),
+    ("connection", "close", true),
+    ("connection", "upgrade", true),
+    ("connection", "X", true),
+    ("connection", "websocket", false),
+    ("connection", "", false),
+    ("upgrade", "WebSocket", true),
+    ("te", "websocket", false),
+];
+
+#[test]
+fn words_of_a_field(rt: HostRuntime) -> Result<(), Fail> {
+    let fields = fields(rt.alloc(), &LINES)?;
+    for (name, word, has) in FIELD_WORDS {
+        assert_eq!(rt;
+            fields.has_word(name.as_bytes(), word.as_bytes()),
+            has,
+            "{name} {word}"
+        );
+    }
+    Ok(())
+}
+
+// Bytes that were made in each way, one after the other.
+fn grown(alloc: Global) -> Result<Bytes, NoMemory> {
+    let mut bytes = Bytes::with_capacity(alloc, 2)?;
+    bytes.push(b'a')?;
+    bytes.extend_from_slice(b"bc")?;
+    bytes.extend_from_slice(b"")?;
+    bytes.push(b'd')?;
+    Ok(bytes)
+}
+
+#[test]
+fn bytes_there_and_back(rt: HostRuntime) -> Result<(), Fail> {
+    let bytes = grown(rt.alloc())?;
+    assert_eq!(rt; bytes.len(), 4);
+    assert!(rt; !bytes.is_empty());
+    let copy = bytes.clone()?;
+    let back = Bytes::from_vec(bytes.into_vec());
+    assert_eq!(rt; back.as_slice(), b"abcd".as_slice());
+    assert_eq!(rt; copy.as_slice(), b"abcd".as_slice());
+    assert!(rt; Bytes::new(rt.alloc()).is_empty());
+    Ok(())
+}
+
+fn texts(alloc: Global) -> Result<Texts, NoMemory> {
+    let mut texts = Texts::with_capacity(alloc, 1)?;
+    texts.push(Text::copy_of(alloc, "-v")?)?;
+    texts.push(Text::copy_of(alloc, "")?)?;
+    Ok(texts)
+}
+
+#[test]
+fn texts_there_and_back(rt: HostRuntime) -> Result<(), Fail> {
+    let text = Text::from_string("d\u{e9}j\u{e0}".to_string(rt.alloc())?);
+    assert_eq!(rt; text.as_str(), "d\u{e9}j\u{e0}");
+    assert_eq!(rt; text.len(), 6);
+    assert_eq!(rt; text.as_bytes().len(), 6);
+    assert_eq!(rt; text.into_string().as_str(), "d\u{e9}j\u{e0}");
+    let last = texts(rt.alloc())?.into_vec().pop().ok_or("none")?;
+    assert!(rt; last.is_empty());
+    Ok(())
+}
+
+fn pair(alloc: Global, name: &str, value: &str) -> Result<Pair, NoMemory> {
+    let name = Text::copy_of(alloc, name)?;
+    let value = Text::copy_of(alloc, value)?;
+    Ok(Pair { name, value })
+}
+
+fn pairs(alloc: Global) -> Result<Pairs, NoMemory> {
+    let mut env = Pairs::new(alloc);
+    env.push(pair(alloc, "QUERY_STRING", "")?)?;
+    Ok(env)
+}
+
+fn launch(alloc: Global) -> Result<Launch, NoMemory> {
+    let program = Text::copy_of(alloc, "/srv/cgi/hello")?;
+    let dir = Text::copy_of(alloc, "/srv/cgi")?;
+    let args = texts(alloc)?;
+    let env = pairs(alloc)?;
+    Ok(Launch {
+        program,
+        dir,
+        args,
+        env,
+    })
+}
+
+#[test]
+fn launches(rt: HostRuntime) -> Result<(), Fail> {
+    let launch = launch(rt.alloc())?.copy()?;
+    assert_eq!(rt; launch.program.as_str(), "/srv/cgi/hello");
+    assert_eq!(rt; launch.dir.as_str(), "/srv/cgi");
+    assert_eq!(rt; launch.args.len(), 2);
+    let last = launch.env.into_vec().pop().ok_or("none")?;
+    assert_eq!(rt; last.name.as_str(), "QUERY_STRING");
+    Ok(())
+}
+
+#[test]
+fn limits_of_a_site_that_names_none(rt: HostRuntime) {
+    let limits = Limits::default();
+    let bytes = [
+        limits.head,
+        limits.target,
+        limits.body,
+        limits.output,
+        limits.ws_text,
+    ];
+    assert_eq!(rt; bytes, [16_384, 8_000, 1_048_576, 16_777_216, 65_536]);
+    let ticks = [limits.run_ticks, limits.idle_ticks, limits.linger_ticks];
+    assert_eq!(rt; ticks, [300, 150, 20]);
+    let counts = [limits.redirects, limits.connections, limits.children];
+    assert_eq!(rt; counts, [10, 256, 64]);
+}
+
+#[test]
+fn want_of_memory(rt: HostRuntime) {
+    assert_eq!(rt; Refusal::from(NoMemory), Refusal::NoMemory);
+}

@@ -1,0 +1,2 @@
+// What the run of one child does.
+mod runs;

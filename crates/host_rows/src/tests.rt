@@ -1,0 +1,20 @@
+// What no clause says: runs by the top call over memory.
+mod commands;
+mod connections;
+mod drive;
+mod explaining;
+mod heads;
+mod interleaved;
+mod launches;
+mod limits;
+mod lines;
+mod misfits;
+mod outputs;
+mod pieces;
+mod play;
+mod replies;
+mod requests;
+mod run;
+mod stops;
+mod talks;
+mod texts;

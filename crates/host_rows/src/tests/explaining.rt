@@ -1,0 +1,247 @@
+// What `explain` reports of requests over memory.
+use super::drive::{Heard, words_of, world_of};
+use super::lines::{shown, told};
+use super::texts::REQUEST;
+use host_base::NoMemory;
+use host_run::{Status, run};
+use memory_world::{MemorySink, MemoryStore, MemoryWorld};
+use std::alloc::Global;
+use std::process::Abort;
+use std::test::Fail;
+use std::thread::Threads;
+
+// What came of a command: its status, its report and its world.
+#[derive(Drop)]
+struct Came {
+    status: Status,
+    report: MemorySink,
+    world: MemoryWorld,
+}
+
+// Explains what is heard; the puts of these numbers fail.
+fn came_of<R: Threads + Sync>(
+    rt: &R,
+    alloc: Global,
+    heard: &[Heard],
+    failing: &[u64],
+) -> Result<Came, NoMemory> {
+    let words = words_of(alloc, &["explain", "/cgi-bin/hello=/srv/cgi/hello"])?;
+    let mut store = MemoryStore::new(Vec::new(alloc), Vec::new(alloc));
+    let mut report = MemorySink::new(alloc, Vec::from_slice(alloc, failing)?);
+    let mut world = world_of(alloc, heard)?;
+    let status = run(
+        rt,
+        alloc,
+        words.as_slice(),
+        &mut store,
+        &mut report,
+        &mut world,
+    );
+    Ok(Came {
+        status,
+        report,
+        world,
+    })
+}
+
+// This is reported of what is heard after the client connected.
+fn explains<R: Threads + Abort + Sync>(
+    rt: &R,
+    alloc: Global,
+    heard: &[Heard],
+    text: &str,
+) -> Result<(), Fail> {
+    let came = came_of(rt, alloc, heard, &[])?;
+    assert!(rt; matches!(came.status, Status::Done), "{text}");
+    assert_eq!(rt; shown(came.report.written()), text);
+    assert_eq!(rt; came.world.given().len(), 1);
+    Ok(())
+}
+
+const HELLO: &str = "program /srv/cgi/hello
+dir /srv/cgi
+env GATEWAY_INTERFACE=CGI/1.1
+env QUERY_STRING=
+env REMOTE_ADDR=192.0.2.1
+env REMOTE_HOST=192.0.2.1
+env REQUEST_METHOD=GET
+env SCRIPT_NAME=/cgi-bin/hello
+env SERVER_NAME=a
+env SERVER_PORT=8080
+env SERVER_PROTOCOL=HTTP/1.1
+env SERVER_SOFTWARE=cgihost/1
+env HTTP_HOST=a
+";
+
+// Nothing is done but to ask, and the trace ends with the request.
+#[test]
+fn a_whole_request(rt: HostRuntime) -> Result<(), Fail> {
+    let alloc = rt.alloc();
+    let came = came_of(
+        &rt,
+        alloc,
+        &[Heard::Accepted, Heard::Client(0, REQUEST)],
+        &[],
+    )?;
+    assert!(&rt; matches!(came.status, Status::Done));
+    assert_eq!(&rt; shown(came.report.written()), HELLO);
+    let trace = told(&rt, alloc, &came.world)?;
+    assert_eq!(&rt;
+        trace.as_str(),
+        "Accepted 192.0.2.1\n    WantClient 0\nClientBytes 0: 59\n"
+    );
+    Ok(())
+}
+
+#[test]
+fn a_path_that_goes_on_behind_its_script(rt: HostRuntime) -> Result<(), Fail> {
+    let request = b"GET /cgi-bin/hello/a%20b/?x=1 HTTP/1.1\r\nHost: example.com:8080\r\n\r\n";
+    explains(
+        &rt,
+        rt.alloc(),
+        &[Heard::Accepted, Heard::Client(0, request)],
+        "program /srv/cgi/hello
+dir /srv/cgi
+env GATEWAY_INTERFACE=CGI/1.1
+env PATH_INFO=/a b/
+env PATH_TRANSLATED=/srv/www/a b/
+env QUERY_STRING=x=1
+env REMOTE_ADDR=192.0.2.1
+env REMOTE_HOST=192.0.2.1
+env REQUEST_METHOD=GET
+env SCRIPT_NAME=/cgi-bin/hello
+env SERVER_NAME=example.com
+env SERVER_PORT=8080
+env SERVER_PROTOCOL=HTTP/1.1
+env SERVER_SOFTWARE=cgihost/1
+env HTTP_HOST=example.com:8080
+",
+    )
+}
+
+#[test]
+fn a_request_in_single_bytes(rt: HostRuntime) -> Result<(), Fail> {
+    let mut heard = Vec::new(rt.alloc());
+    heard.push(Heard::Accepted)?;
+    for piece in REQUEST.chunks(1) {
+        heard.push(Heard::Client(0, piece))?;
+    }
+    explains(&rt, rt.alloc(), heard.as_slice(), HELLO)
+}
+
+// The head, the body that it announces, and the script of its target.
+#[test]
+fn requests_that_are_refused(rt: HostRuntime) -> Result<(), Fail> {
+    let table: [(&[u8], &str); 5] = [
+        (b"GET /x HTTP/2.0\r\n\r\n", "400 bad request head"),
+        (
+            b"GET /x HTTP/1.1\r\nHost: a\r\nX: a\r\n b\r\n\r\n",
+            "400 bad request head",
+        ),
+        (b"GET /x HTTP/1.1\r\n\r\n", "400 bad host"),
+        (
+            b"POST /x HTTP/1.1\r\nHost: a\r\nContent-Length: 1048577\r\n\r\n",
+            "413 request body too large",
+        ),
+        (
+            b"GET /none HTTP/1.1\r\nHost: a\r\n\r\n",
+            "404 no script for this path",
+        ),
+    ];
+    for (request, cause) in table {
+        let text = format!(in rt.alloc(); "refused: {cause}\n")?;
+        explains(
+            &rt,
+            rt.alloc(),
+            &[Heard::Accepted, Heard::Client(0, request)],
+            text.as_str(),
+        )?;
+    }
+    Ok(())
+}
+
+// A client that ends within a request is answered; one that is gone isn't.
+#[test]
+fn requests_that_never_end(rt: HostRuntime) -> Result<(), Fail> {
+    let table: [(&[u8], Heard, &str); 5] = [
+        (
+            b"GET /x HT",
+            Heard::ClientEof(0),
+            "refused: 400 request ended early\n",
+        ),
+        (b"\r\n", Heard::ClientEof(0), "no request\n"),
+        (b"\r", Heard::ClientEof(0), "no request\n"),
+        (b"GET /x HT", Heard::Gone(0), "no request\n"),
+        (b"GET /x HT", Heard::Stop, "no request\n"),
+    ];
+    for (begun, end, text) in table {
+        explains(
+            &rt,
+            rt.alloc(),
+            &[Heard::Accepted, Heard::Client(0, begun), end],
+            text,
+        )?;
+    }
+    explains(
+        &rt,
+        rt.alloc(),
+        &[Heard::Accepted, Heard::ClientEof(0)],
+        "no request\n",
+    )?;
+    explains(&rt, rt.alloc(), &[], "no request\n")
+}
+
+// A query of words, a line end in a path, and a tab and a backslash in a field.
+#[test]
+fn values_with_bytes_that_a_line_can_not_show(rt: HostRuntime) -> Result<(), Fail> {
+    let request =
+        b"GET /cgi-bin/hello/%0a?a%0D+b%5C HTTP/1.1\r\nHost: a\r\nX-Y: 1\t\\\r\nx-y: \xe9\r\n\r\n";
+    explains(
+        &rt,
+        rt.alloc(),
+        &[Heard::Accepted, Heard::Client(0, request)],
+        "program /srv/cgi/hello
+dir /srv/cgi
+arg a\\x0D
+arg b\\x5C
+env GATEWAY_INTERFACE=CGI/1.1
+env PATH_INFO=/\\x0A
+env PATH_TRANSLATED=/srv/www/\\x0A
+env QUERY_STRING=a%0D+b%5C
+env REMOTE_ADDR=192.0.2.1
+env REMOTE_HOST=192.0.2.1
+env REQUEST_METHOD=GET
+env SCRIPT_NAME=/cgi-bin/hello
+env SERVER_NAME=a
+env SERVER_PORT=8080
+env SERVER_PROTOCOL=HTTP/1.1
+env SERVER_SOFTWARE=cgihost/1
+env HTTP_HOST=a
+env HTTP_X_Y=1\\x09\\x5C, \u{e9}
+",
+    )
+}
+
+// Half of a report that fails was put.
+#[test]
+fn a_report_that_fails(rt: HostRuntime) -> Result<(), Fail> {
+    let came = came_of(
+        &rt,
+        rt.alloc(),
+        &[Heard::Accepted, Heard::ClientEof(0)],
+        &[0],
+    )?;
+    assert!(&rt; matches!(came.status, Status::ReportFault));
+    assert_eq!(&rt; shown(came.report.written()), "no re");
+    assert_eq!(&rt; came.world.given().len(), 1);
+    Ok(())
+}
+
+#[test]
+fn a_client_for_whom_there_is_no_memory(rt: HostRuntime) -> Result<(), Fail> {
+    let came = came_of(&rt, rt.alloc(), &[Heard::Accepted, Heard::NoRoom(0)], &[])?;
+    assert!(&rt; matches!(came.status, Status::NoMemory));
+    assert_eq!(&rt; came.report.written().len(), 0);
+    assert_eq!(&rt; came.world.given().len(), 1);
+    Ok(())
+}

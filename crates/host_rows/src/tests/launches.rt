@@ -1,0 +1,295 @@
+// What children are started with and fed.
+use super::drive::Heard::{Accepted, Client, Exited, Output, OutputEof, Started};
+use super::drive::{Heard, runs, world_of};
+use super::lines::{fed, given, launches_of, shown};
+use host_run::Status;
+use std::alloc::Global;
+use std::process::Abort;
+use std::test::Fail;
+use std::thread::Threads;
+
+// A site, what is heard, what children are started with, and what they are fed.
+struct Case {
+    site: &'static str,
+    heard: &'static [Heard<'static>],
+    launched: &'static str,
+    fed: &'static str,
+}
+
+// A form in the manner of a browser's, and the same in chunks.
+const FORM: &[u8] = b"POST /cgi-bin/form HTTP/1.1\r
+Host: www.example.com\r
+User-Agent: Mozilla/5.0\r
+Accept: text/html,*/*;q=0.8\r
+Accept-Language: en\r
+Accept-Encoding: gzip, deflate\r
+Content-Type: application/x-www-form-urlencoded\r
+Content-Length: 3\r
+Origin: http://www.example.com\r
+DNT: 1\r
+Connection: keep-alive\r
+Referer: http://www.example.com/form\r
+Cookie: a=1; b=2\r
+Upgrade-Insecure-Requests: 1\r
+Cache-Control: max-age=0\r
+Priority: u=0, i\r
+\r
+x=1";
+
+pub const CHUNKED_FORM: &[u8] = b"POST /cgi-bin/form HTTP/1.1\r
+Host: www.example.com\r
+User-Agent: Mozilla/5.0\r
+Accept: text/html,*/*;q=0.8\r
+Accept-Language: en\r
+Accept-Encoding: gzip, deflate\r
+Content-Type: application/x-www-form-urlencoded\r
+Transfer-Encoding: chunked\r
+Origin: http://www.example.com\r
+DNT: 1\r
+Connection: keep-alive\r
+Referer: http://www.example.com/form\r
+Cookie: a=1\r
+Cookie: b=2\r
+Upgrade-Insecure-Requests: 1\r
+Cache-Control: max-age=0\r
+Priority: u=0, i\r
+\r
+3\r
+x=1\r
+0\r
+\r
+";
+
+const FORM_LAUNCH: &str = "/srv/cgi/form
+    /srv/cgi
+    CONTENT_LENGTH=3
+    CONTENT_TYPE=application/x-www-form-urlencoded
+    GATEWAY_INTERFACE=CGI/1.1
+    QUERY_STRING=
+    REMOTE_ADDR=192.0.2.1
+    REMOTE_HOST=192.0.2.1
+    REQUEST_METHOD=POST
+    SCRIPT_NAME=/cgi-bin/form
+    SERVER_NAME=www.example.com
+    SERVER_PORT=8080
+    SERVER_PROTOCOL=HTTP/1.1
+    SERVER_SOFTWARE=cgihost/1
+    HTTP_HOST=www.example.com
+    HTTP_USER_AGENT=Mozilla/5.0
+    HTTP_ACCEPT=text/html,*/*;q=0.8
+    HTTP_ACCEPT_LANGUAGE=en
+    HTTP_ACCEPT_ENCODING=gzip, deflate
+    HTTP_ORIGIN=http://www.example.com
+    HTTP_DNT=1
+    HTTP_REFERER=http://www.example.com/form
+    HTTP_COOKIE=a=1; b=2
+    HTTP_UPGRADE_INSECURE_REQUESTS=1
+    HTTP_CACHE_CONTROL=max-age=0
+    HTTP_PRIORITY=u=0, i
+";
+
+const CASES: [Case; 8] = [
+    Case {
+        site: "site",
+        heard: &[Accepted, Client(0, FORM), Started(0)],
+        launched: FORM_LAUNCH,
+        fed: "x=1",
+    },
+    Case {
+        site: "site",
+        heard: &[Accepted, Client(0, CHUNKED_FORM), Started(0)],
+        launched: FORM_LAUNCH,
+        fed: "x=1",
+    },
+    // A local redirect is a GET with no body.
+    Case {
+        site: "site",
+        heard: &[
+            Accepted,
+            Client(
+                0,
+                b"POST /cgi-bin/form HTTP/1.1\r\nHost: a\r\nConnection: close\r\nContent-Length: 3\r\nAccept: */*\r\n\r\nx=1",
+            ),
+            Started(0),
+            Output(0, b"Location: /cgi-bin/hello/a?b+c%2Fd\n\n"),
+            OutputEof(0),
+            Exited(0),
+        ],
+        launched: "/srv/cgi/form
+    /srv/cgi
+    CONTENT_LENGTH=3
+    GATEWAY_INTERFACE=CGI/1.1
+    QUERY_STRING=
+    REMOTE_ADDR=192.0.2.1
+    REMOTE_HOST=192.0.2.1
+    REQUEST_METHOD=POST
+    SCRIPT_NAME=/cgi-bin/form
+    SERVER_NAME=a
+    SERVER_PORT=8080
+    SERVER_PROTOCOL=HTTP/1.1
+    SERVER_SOFTWARE=cgihost/1
+    HTTP_HOST=a
+    HTTP_ACCEPT=*/*
+/srv/cgi/hello
+    /srv/cgi
+    arg:
+    b
+    arg:
+    c/d
+    GATEWAY_INTERFACE=CGI/1.1
+    PATH_INFO=/a
+    PATH_TRANSLATED=/srv/www/a
+    QUERY_STRING=b+c%2Fd
+    REMOTE_ADDR=192.0.2.1
+    REMOTE_HOST=192.0.2.1
+    REQUEST_METHOD=GET
+    SCRIPT_NAME=/cgi-bin/hello
+    SERVER_NAME=a
+    SERVER_PORT=8080
+    SERVER_PROTOCOL=HTTP/1.1
+    SERVER_SOFTWARE=cgihost/1
+    HTTP_HOST=a
+    HTTP_ACCEPT=*/*
+",
+        fed: "x=1",
+    },
+    // The length that is announced, before any byte of the body.
+    Case {
+        site: "site",
+        heard: &[
+            Accepted,
+            Client(
+                0,
+                b"POST /cgi-bin/form HTTP/1.1\r\nHost: a\r\nContent-Length: 1048576\r\n\r\n",
+            ),
+            Started(0),
+        ],
+        launched: "/srv/cgi/form
+    /srv/cgi
+    CONTENT_LENGTH=1048576
+    GATEWAY_INTERFACE=CGI/1.1
+    QUERY_STRING=
+    REMOTE_ADDR=192.0.2.1
+    REMOTE_HOST=192.0.2.1
+    REQUEST_METHOD=POST
+    SCRIPT_NAME=/cgi-bin/form
+    SERVER_NAME=a
+    SERVER_PORT=8080
+    SERVER_PROTOCOL=HTTP/1.1
+    SERVER_SOFTWARE=cgihost/1
+    HTTP_HOST=a
+",
+        fed: "",
+    },
+    // The name of the site where the request has none.
+    Case {
+        site: "site",
+        heard: &[Accepted, Client(0, b"GET /cgi-bin/hello HTTP/1.0\r\n\r\n")],
+        launched: "/srv/cgi/hello
+    /srv/cgi
+    GATEWAY_INTERFACE=CGI/1.1
+    QUERY_STRING=
+    REMOTE_ADDR=192.0.2.1
+    REMOTE_HOST=192.0.2.1
+    REQUEST_METHOD=GET
+    SCRIPT_NAME=/cgi-bin/hello
+    SERVER_NAME=localhost
+    SERVER_PORT=8080
+    SERVER_PROTOCOL=HTTP/1.0
+    SERVER_SOFTWARE=cgihost/1
+",
+        fed: "",
+    },
+    // Two hosts: by an alias, by a name with a port, and the first where the request has none.
+    Case {
+        site: "hosts",
+        heard: &[
+            Accepted,
+            Client(
+                0,
+                b"GET /s HTTP/1.1\r\nHost: WWW.A.Example\r\nConnection: close\r\n\r\n",
+            ),
+        ],
+        launched: "/srv/a/s
+    /srv/a
+    GATEWAY_INTERFACE=CGI/1.1
+    QUERY_STRING=
+    REMOTE_ADDR=192.0.2.1
+    REMOTE_HOST=192.0.2.1
+    REQUEST_METHOD=GET
+    SCRIPT_NAME=/s
+    SERVER_NAME=WWW.A.Example
+    SERVER_PORT=8080
+    SERVER_PROTOCOL=HTTP/1.1
+    SERVER_SOFTWARE=cgihost/1
+    HTTP_HOST=WWW.A.Example
+",
+        fed: "",
+    },
+    Case {
+        site: "hosts",
+        heard: &[
+            Accepted,
+            Client(
+                0,
+                b"GET /s/x HTTP/1.1\r\nHost: b.example:81\r\nConnection: close\r\n\r\n",
+            ),
+        ],
+        launched: "/srv/b/s
+    /srv/b
+    GATEWAY_INTERFACE=CGI/1.1
+    PATH_INFO=/x
+    PATH_TRANSLATED=/srv/b/x
+    QUERY_STRING=
+    REMOTE_ADDR=192.0.2.1
+    REMOTE_HOST=192.0.2.1
+    REQUEST_METHOD=GET
+    SCRIPT_NAME=/s
+    SERVER_NAME=b.example
+    SERVER_PORT=8080
+    SERVER_PROTOCOL=HTTP/1.1
+    SERVER_SOFTWARE=cgihost/1
+    HTTP_HOST=b.example:81
+",
+        fed: "",
+    },
+    Case {
+        site: "hosts",
+        heard: &[Accepted, Client(0, b"GET /s/x HTTP/1.0\r\n\r\n")],
+        launched: "/srv/a/s
+    /srv/a
+    GATEWAY_INTERFACE=CGI/1.1
+    PATH_INFO=/x
+    PATH_TRANSLATED=/srv/www/x
+    QUERY_STRING=
+    REMOTE_ADDR=192.0.2.1
+    REMOTE_HOST=192.0.2.1
+    REQUEST_METHOD=GET
+    SCRIPT_NAME=/s
+    SERVER_NAME=a.example
+    SERVER_PORT=8080
+    SERVER_PROTOCOL=HTTP/1.0
+    SERVER_SOFTWARE=cgihost/1
+",
+        fed: "",
+    },
+];
+
+fn is_right<R: Threads + Abort + Sync>(rt: &R, alloc: Global, case: &Case) -> Result<(), Fail> {
+    let mut world = world_of(alloc, case.heard)?;
+    let status = runs(rt, alloc, &["once", case.site], &mut world)?;
+    assert!(rt; matches!(status, Status::Done));
+    let launched = launches_of(alloc, given(&world))?;
+    assert_eq!(rt; launched.as_str(), case.launched);
+    let fed = fed(alloc, given(&world))?;
+    assert_eq!(rt; shown(fed.as_slice()), case.fed);
+    Ok(())
+}
+
+#[test]
+fn children_are_offered_what_the_request_says(rt: HostRuntime) -> Result<(), Fail> {
+    for case in &CASES {
+        is_right(&rt, rt.alloc(), case)?;
+    }
+    Ok(())
+}

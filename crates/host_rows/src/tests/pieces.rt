@@ -1,0 +1,199 @@
+// Exchanges whose request or output comes in pieces: whatever the pieces are, the same is to come of them.
+ghost use Rattle.std.specs.Prelude.{◌<◌, length};
+
+use super::drive::{Heard, runs, world_of};
+use super::lines::given;
+use super::texts::{OUTPUT, REQUEST};
+use host_base::NoMemory;
+use host_run::Status;
+use host_trace::{Act, Item, Why};
+use std::alloc::Global;
+use std::thread::Threads;
+
+/// The part of an exchange that comes in pieces.
+#[derive(Clone, Copy)]
+pub enum Part {
+    Request,
+    Output,
+}
+
+/// What is to come of an exchange.
+#[derive(Clone, Copy)]
+pub enum Wanted<'t> {
+    /// Nothing is written or started before Stop.
+    Nothing,
+    /// This is the reply, it closes, and nothing is started.
+    Refused(&'t [u8]),
+    /// One script is started, and this is the reply, which closes.
+    Served(&'t [u8]),
+    /// The same, and the connection stays open until Stop.
+    Open(&'t [u8]),
+}
+
+// What was written to the client, how many children were to be started, and why the connection was shut.
+#[derive(Drop)]
+struct Outcome {
+    written: Vec<u8>,
+    starts: usize,
+    shuts: Vec<Why>,
+}
+
+fn outcome_of(alloc: Global, items: &[Item]) -> Result<Outcome, NoMemory> {
+    let mut outcome = Outcome {
+        written: Vec::new(alloc),
+        starts: 0,
+        shuts: Vec::new(alloc),
+    };
+    for item in items {
+        match item {
+            Item::Out(Act::Write { bytes, .. }) => {
+                outcome.written.extend_from_slice(bytes.as_slice())?;
+            }
+            Item::Out(Act::Start { .. }) => outcome.starts = outcome.starts.saturating_add(1),
+            Item::Out(Act::Shut { why, .. }) => outcome.shuts.push(*why)?,
+            _ => {}
+        }
+    }
+    Ok(outcome)
+}
+
+fn is(outcome: &Outcome, reply: &[u8], starts: usize, why: Why) -> bool {
+    outcome.written.as_slice() == reply
+        && outcome.starts == starts
+        && outcome.shuts.as_slice() == [why].as_slice()
+}
+
+fn is_wanted(outcome: &Outcome, wanted: Wanted) -> bool {
+    match wanted {
+        Wanted::Nothing => is(outcome, b"", 0, Why::Stopped),
+        Wanted::Refused(reply) => is(outcome, reply, 0, Why::Done),
+        Wanted::Served(reply) => is(outcome, reply, 1, Why::Done),
+        Wanted::Open(reply) => is(outcome, reply, 1, Why::Stopped),
+    }
+}
+
+// The first exchange with these pieces in place of a part.
+fn exchange<'t>(
+    alloc: Global,
+    part: Part,
+    pieces: &[&'t [u8]],
+) -> Result<Vec<Heard<'t>>, NoMemory> {
+    let mut heard = Vec::new(alloc);
+    heard.push(Heard::Accepted)?;
+    if let Part::Output = part {
+        heard.push(Heard::Client(0, REQUEST))?;
+        heard.push(Heard::Started(0))?;
+    }
+    for piece in pieces {
+        heard.push(match part {
+            Part::Request => Heard::Client(0, *piece),
+            Part::Output => Heard::Output(0, *piece),
+        })?;
+    }
+    if let Part::Request = part {
+        heard.push(Heard::Started(0))?;
+        heard.push(Heard::Output(0, OUTPUT))?;
+    }
+    heard.push(Heard::OutputEof(0))?;
+    heard.push(Heard::Exited(0))?;
+    Ok(heard)
+}
+
+// More turns than an exchange has events.
+const WORDS: [&str; 4] = ["serve", "/cgi-bin/hello=/srv/cgi/hello", "--turns", "1000"];
+
+// Whether it comes of an exchange in these pieces, which ends as it should and tells its one trace.
+fn is_right<R: Threads + Sync>(
+    rt: &R,
+    alloc: Global,
+    part: Part,
+    pieces: &[&[u8]],
+    wanted: Wanted,
+) -> Result<bool, NoMemory> {
+    let heard = exchange(alloc, part, pieces)?;
+    let mut world = world_of(alloc, heard.as_slice())?;
+    let status = runs(rt, alloc, &WORDS, &mut world)?;
+    let outcome = outcome_of(alloc, given(&world))?;
+    Ok(matches!(status, Status::Done) && is_wanted(&outcome, wanted))
+}
+
+/// Whether it comes of a part that comes whole.
+pub fn is_right_whole<R: Threads + Sync>(
+    rt: &R,
+    alloc: Global,
+    part: Part,
+    text: &[u8],
+    wanted: Wanted,
+) -> Result<bool, NoMemory> {
+    is_right(rt, alloc, part, &[text], wanted)
+}
+
+/// Whether it comes of a part whose bytes come one by one.
+pub fn is_right_singly<R: Threads + Sync>(
+    rt: &R,
+    alloc: Global,
+    part: Part,
+    text: &[u8],
+    wanted: Wanted,
+) -> Result<bool, NoMemory> {
+    let mut pieces = Vec::new(alloc);
+    for piece in text.chunks(1) {
+        pieces.push(piece)?;
+    }
+    is_right(rt, alloc, part, pieces.as_slice(), wanted)
+}
+
+// Whether a text is cut there: beside its line ends, near its own, and a long one at some places between.
+fn is_cut(text: &[u8], at: usize) -> bool
+    requires { at < length text.now }
+{
+    let left = text.len() - at;
+    at < 3 || left < 3 || at % 4000 == 0 || text[at] == b'\n' || text[at - 1] == b'\n'
+}
+
+/// Whether it comes of a part that is cut in two at any of these places.
+pub fn is_right_in_two<R: Threads + Sync>(
+    rt: &R,
+    alloc: Global,
+    part: Part,
+    text: &[u8],
+    wanted: Wanted,
+) -> Result<bool, NoMemory> {
+    for at in 1..text.len() {
+        if is_cut(text, at) && !is_right(rt, alloc, part, &[&text[..at], &text[at..]], wanted)? {
+            return Ok(false);
+        }
+    }
+    Ok(true)
+}
+
+/// Whether it comes of a part that comes whole, in two or in single bytes.
+pub fn is_right_in_any<R: Threads + Sync>(
+    rt: &R,
+    alloc: Global,
+    part: Part,
+    text: &[u8],
+    wanted: Wanted,
+) -> Result<bool, NoMemory> {
+    Ok(
+        is_right_whole(rt, alloc, part, text, wanted)?
+            && is_right_in_two(rt, alloc, part, text, wanted)?
+            && is_right_singly(rt, alloc, part, text, wanted)?,
+    )
+}
+
+/// A text with a part that is repeated.
+pub fn repeated(
+    alloc: Global,
+    before: &[u8],
+    part: &[u8],
+    times: usize,
+    after: &[u8],
+) -> Result<Vec<u8>, NoMemory> {
+    let mut text = Vec::from_slice(alloc, before)?;
+    for _ in 0..times {
+        text.extend_from_slice(part)?;
+    }
+    text.extend_from_slice(after)?;
+    Ok(text)
+}

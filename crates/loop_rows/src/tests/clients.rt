@@ -1,0 +1,176 @@
+mod fakes;
+
+use fakes::{Ending, FakePorts, Plan, Room};
+use host_base::{Bytes, NoMemory};
+use host_trace::{Act, Event, Why};
+use socket_set::{Polled, Ports, SocketSet};
+use std::alloc::Global;
+use std::process::Abort;
+use std::test::Fail;
+
+// What was told, by a letter.
+fn letter(polled: &Polled) -> u8 {
+    match polled {
+        Polled::Nothing => b'-',
+        Polled::Again => b'+',
+        Polled::Told(Event::Accepted { .. }) => b'A',
+        Polled::Told(Event::Tick { .. }) => b't',
+        Polled::Told(Event::ClientBytes { .. }) => b'b',
+        Polled::Told(Event::ClientEof { .. }) => b'e',
+        Polled::Told(Event::ClientGone { .. }) => b'g',
+        Polled::Told(Event::Wrote { .. }) => b'w',
+        Polled::Told(Event::WsText { .. }) => b'm',
+        Polled::Told(_) => b'?',
+    }
+}
+
+// The act on client 0 that a letter stands for.
+fn act_of(alloc: Global, letter: u8) -> Result<Act, NoMemory> {
+    Ok(match letter {
+        b'W' => Act::Write {
+            c: 0,
+            bytes: Bytes::from_slice(alloc, b"ab")?,
+        },
+        b'U' => Act::Upgrade {
+            c: 0,
+            rest: Bytes::from_slice(alloc, b"")?,
+        },
+        b's' => Act::Shut {
+            c: 0,
+            why: Why::Done,
+        },
+        _ => Act::WantClient { c: 0 },
+    })
+}
+
+// Asks the set at each `p`, waits at `z`, ends listening at `e` and else does an act; what was told at each ask.
+fn told_in<P: Ports + Drop>(
+    alloc: Global,
+    set: &mut SocketSet<P>,
+    script: &[u8],
+) -> Result<Vec<u8>, NoMemory> {
+    let mut told = Vec::new(alloc);
+    for step in script {
+        match *step {
+            b'p' => told.push(letter(&set.poll()))?,
+            b'z' => set.wait(1_000),
+            b'e' => set.end_listening(),
+            other => {
+                let act = act_of(alloc, other)?;
+                set.act(&act);
+            }
+        }
+    }
+    Ok(told)
+}
+
+const PLAIN: Plan = Plan {
+    bytes: b"x",
+    ending: Ending::Nothing,
+    room: Room::All,
+    accepts_fail: 0,
+    waits_fail: false,
+};
+
+// A masked text frame, `Hello`.
+const HELLO: &[u8] = &[
+    0x81, 0x85, 0x37, 0xfa, 0x21, 0x3d, 0x7f, 0x9f, 0x4d, 0x51, 0x58,
+];
+
+// Each row: what the client does, what is asked for, what is told, how often something failed.
+fn check_rows(
+    rt: &impl Abort,
+    alloc: Global,
+    rows: &[(Plan, &[u8], &[u8], u64)],
+) -> Result<(), Fail> {
+    for (plan, script, wanted, faults) in rows {
+        let mut set = SocketSet::new(alloc, FakePorts::new(alloc, *plan), 4)?;
+        let told = told_in(alloc, &mut set, script)?;
+        assert_eq!(rt; told.as_slice(), *wanted);
+        assert_eq!(rt; set.faults(), *faults);
+    }
+    Ok(())
+}
+
+#[test]
+fn what_comes_is_told_once(rt: HostRuntime) -> Result<(), Fail> {
+    let rows: [(Plan, &[u8], &[u8], u64); 6] = [
+        (PLAIN, b"ppwpwpp", b"A-b--", 0),
+        (
+            Plan {
+                ending: Ending::End,
+                ..PLAIN
+            },
+            b"pwpwpp",
+            b"Abe-",
+            0,
+        ),
+        (
+            Plan {
+                bytes: b"",
+                ending: Ending::Failed,
+                ..PLAIN
+            },
+            b"pwpp",
+            b"Ag-",
+            1,
+        ),
+        (PLAIN, b"pWpp", b"Aw-", 0),
+        (
+            Plan {
+                room: Room::None,
+                ..PLAIN
+            },
+            b"pWpwpp",
+            b"A-b-",
+            0,
+        ),
+        (
+            Plan {
+                room: Room::Failed,
+                ..PLAIN
+            },
+            b"pWpp",
+            b"Ag-",
+            1,
+        ),
+    ];
+    check_rows(&rt, rt.alloc(), &rows)
+}
+
+#[test]
+fn ends_ticks_and_failures_are_told(rt: HostRuntime) -> Result<(), Fail> {
+    let rows: [(Plan, &[u8], &[u8], u64); 6] = [
+        (PLAIN, b"pWspwp", b"A--", 0),
+        (
+            Plan {
+                bytes: HELLO,
+                ..PLAIN
+            },
+            b"pUwpppwpp",
+            b"A+m-+-",
+            0,
+        ),
+        (PLAIN, b"pzppzpzp", b"A--tt", 0),
+        (
+            Plan {
+                accepts_fail: 1,
+                ..PLAIN
+            },
+            b"ppzpp",
+            b"--tA",
+            1,
+        ),
+        (
+            Plan {
+                waits_fail: true,
+                ..PLAIN
+            },
+            b"pp",
+            b"A-",
+            2,
+        ),
+        (PLAIN, b"epzp", b"-t", 0),
+    ];
+    check_rows(&rt, rt.alloc(), &rows)
+}

@@ -1,0 +1,352 @@
+ghost use Rattle.std.specs.Prelude.{◌≡◌};
+
+mod kids;
+mod maker;
+mod ports;
+
+use child_book::{Blank, Ledger};
+use edge_loop::{NetOutside, NetWorld, Order};
+use host_base::{Bytes, Docs, Hosts, Launch, Limits, NoMemory, Pairs, Site, Text, Texts};
+use host_trace::{Act, Event, Why};
+use kids::FakeSpawner;
+use maker::FakeMaker;
+use ports::{FakeOrders, FakePorts, Plan};
+use std::alloc::Global;
+use std::marker::Brand;
+use std::process::Abort;
+use std::sync::Wait;
+use std::test::Fail;
+
+type FakeLoop<L, R> = NetOutside<FakePorts, FakeSpawner<R>, FakeOrders, L, R>;
+
+fn site(alloc: Global, children: u32) -> Result<Site, NoMemory> {
+    Ok(Site {
+        listen: Text::copy_of(alloc, "127.0.0.1")?,
+        port: 8_080,
+        limits: Limits {
+            children,
+            ..Limits::default()
+        },
+        hosts: Hosts::new(alloc),
+        docs: Docs::new(alloc),
+    })
+}
+
+// What an event is, by a letter.
+fn letter(event: &Event) -> u8 {
+    match event {
+        Event::Accepted { .. } => b'a',
+        Event::ClientBytes { .. } => b'c',
+        Event::Started { .. } => b's',
+        Event::StartFailed { .. } => b'q',
+        Event::StartFull { .. } => b'f',
+        Event::ChildBytes { .. } => b'b',
+        Event::ChildEof { .. } => b'e',
+        Event::Took { .. } => b't',
+        Event::Exited { .. } => b'd',
+        Event::Wrote { .. } => b'w',
+        Event::Tick { .. } => b'.',
+        Event::Stop => b'z',
+        _ => b'?',
+    }
+}
+
+fn launch(alloc: Global) -> Result<Launch, NoMemory> {
+    Ok(Launch {
+        program: Text::copy_of(alloc, "a")?,
+        dir: Text::copy_of(alloc, "b")?,
+        args: Texts::new(alloc),
+        env: Pairs::new(alloc),
+    })
+}
+
+// The acts that answer an event: a child is started for each client, whose number it has, and once it has exited, or
+// was not started, the client is written to and shut.
+fn answer<L: Ledger, R: Wait + Copy + Drop>(
+    alloc: Global,
+    out: &mut FakeLoop<L, R>,
+    clients: &mut u64,
+    event: &Event,
+) -> Result<(), NoMemory> {
+    match event {
+        Event::Accepted { .. } => {
+            out.do_act(&Act::WantClient { c: *clients });
+            *clients = clients.saturating_add(1);
+        }
+        Event::ClientBytes { c, .. } => {
+            out.do_act(&Act::Start {
+                k: *c,
+                c: *c,
+                j: 0,
+                hop: 0,
+                launch: launch(alloc)?,
+            });
+        }
+        Event::Started { k } => {
+            let bytes = Bytes::from_slice(alloc, b"abc")?;
+            out.do_act(&Act::Feed { k: *k, bytes });
+            out.do_act(&Act::EndInput { k: *k });
+            out.do_act(&Act::WantChild { k: *k });
+        }
+        Event::ChildBytes { k, .. } => {
+            out.do_act(&Act::WantChild { k: *k });
+        }
+        Event::Exited { k } | Event::StartFailed { k } | Event::StartFull { k, .. } => {
+            let bytes = Bytes::from_slice(alloc, b"hi")?;
+            out.do_act(&Act::Write { c: *k, bytes });
+        }
+        Event::Wrote { c, .. } => {
+            out.do_act(&Act::Shut {
+                c: *c,
+                why: Why::Done,
+            });
+        }
+        _ => {}
+    }
+    Ok(())
+}
+
+// So many events, by letters.
+fn tell<L: Ledger, R: Wait + Copy + Drop>(
+    alloc: Global,
+    out: &mut FakeLoop<L, R>,
+    events: u32,
+) -> Result<Vec<u8>, NoMemory> {
+    let mut told = Vec::new(alloc);
+    let mut clients = 0;
+    for _ in 0..events {
+        let event = out.next_event();
+        told.push(letter(&event))?;
+        answer(alloc, out, &mut clients, &event)?;
+    }
+    Ok(told)
+}
+
+/// What one loop told, how often anything failed, and how many children the book counts once it is taken back.
+#[derive(Drop)]
+struct Ran {
+    told: Vec<u8>,
+    faults: u64,
+    left: u32,
+}
+
+fn run_loop<L: Ledger, R: Wait + Copy + Drop>(
+    rt: R,
+    alloc: Global,
+    blank: Blank,
+    plan: Plan,
+    events: u32,
+) -> Result<Ran, NoMemory>
+    requires name { blank.name ≡ L.name }
+    requires parts { blank.parts ≡ L.parts }
+    requires some { blank.parts ≡ 16 }
+{
+    let site = site(alloc, 1)?;
+    let maker = FakeMaker::new(rt, alloc, plan, 1);
+    let mut world = NetWorld::<FakeMaker<R>, L, R>::new(rt, alloc, maker, blank);
+    let Ok(outs) = world.enter(&site, 1) else {
+        return Err(NoMemory);
+    };
+    let mut outs: Vec<FakeLoop<L, R>> = outs;
+    let mut told = Ok(Vec::new(alloc));
+    let mut faults = 0;
+    if let Some(out) = outs.first_mut() {
+        told = tell(alloc, out, events);
+        faults = out.faults();
+    }
+    world.leave(outs);
+    Ok(Ran {
+        told: told?,
+        faults,
+        left: world.running(),
+    })
+}
+
+const PLAIN: Plan = Plan {
+    clients: 1,
+    accepts_fail: false,
+    waits_fail: 0,
+    starts_fail: false,
+    exits_after: 2,
+    order: None,
+    at: 0,
+};
+
+// Each row: what the devices do, how many events are heard, which those are, how often anything failed.
+fn check_rows<R: Abort + Wait + Copy + Drop>(
+    rt: &R,
+    alloc: Global,
+    rows: &[(Plan, u32, &[u8], u64)],
+) -> Result<(), Fail> {
+    for (plan, events, wanted, faults) in rows {
+        let ran = run_loop::<Brand, _>(*rt, alloc, Blank::new(16), *plan, *events)?;
+        assert_eq!(rt; ran.told.as_slice(), *wanted);
+        assert_eq!(rt; ran.faults, *faults);
+        assert_eq!(rt; ran.left, 0);
+    }
+    Ok(())
+}
+
+#[test]
+fn a_loop_tells_what_is_due(rt: HostRuntime) -> Result<(), Fail> {
+    let rows: [(Plan, u32, &[u8], u64); 6] = [
+        (PLAIN, 12, b"acstbedw....", 0),
+        (
+            Plan {
+                clients: 2,
+                ..PLAIN
+            },
+            16,
+            b"aacstbedcstbedww",
+            0,
+        ),
+        (
+            Plan {
+                starts_fail: true,
+                ..PLAIN
+            },
+            6,
+            b"acqw..",
+            1,
+        ),
+        // While the one child that may run goes on, no other is started.
+        (
+            Plan {
+                clients: 2,
+                exits_after: 1_000,
+                ..PLAIN
+            },
+            12,
+            b"aacstbecfw..",
+            0,
+        ),
+        // A wait that fails is passed over.
+        (
+            Plan {
+                waits_fail: 1,
+                ..PLAIN
+            },
+            5,
+            b"acstb",
+            1,
+        ),
+        // A client that can't be taken is tried again at each tick.
+        (
+            Plan {
+                accepts_fail: true,
+                ..PLAIN
+            },
+            5,
+            b".....",
+            5,
+        ),
+    ];
+    check_rows(&rt, rt.alloc(), &rows)
+}
+
+#[test]
+fn a_loop_ends_as_it_is_told(rt: HostRuntime) -> Result<(), Fail> {
+    let rows: [(Plan, u32, &[u8], u64); 4] = [
+        // Stop comes once, before all else that is waited for.
+        (
+            Plan {
+                order: Some(Order::Stop),
+                at: 3,
+                ..PLAIN
+            },
+            12,
+            b"acsztbedw...",
+            0,
+        ),
+        // A quiet end waits for a child that runs and for what is to be written.
+        (
+            Plan {
+                order: Some(Order::Drain),
+                at: 3,
+                ..PLAIN
+            },
+            12,
+            b"acstbedwz...",
+            0,
+        ),
+        // Nobody is accepted once it was ordered.
+        (
+            Plan {
+                order: Some(Order::Drain),
+                ..PLAIN
+            },
+            4,
+            b"z...",
+            0,
+        ),
+        (
+            Plan {
+                clients: 0,
+                ..PLAIN
+            },
+            3,
+            b"...",
+            0,
+        ),
+    ];
+    check_rows(&rt, rt.alloc(), &rows)
+}
+
+// Whether so many loops can be entered, which are left at once.
+fn enters<L: Ledger, R: Wait + Copy + Drop>(
+    world: &mut NetWorld<FakeMaker<R>, L, R>,
+    site: &Site,
+    loops: u32,
+) -> bool
+    ensures { world.new.out ≡ world.old.out }
+{
+    match world.enter(site, loops) {
+        Ok(outs) => {
+            world.leave(outs);
+            true
+        }
+        Err(_) => false,
+    }
+}
+
+// Whether loops can be entered: beside ten others 7, 6, and one of another site; alone 17, and 16.
+fn enter_some<L: Ledger, R: Wait + Copy + Drop>(
+    rt: R,
+    alloc: Global,
+    blank: Blank,
+    made: u32,
+) -> Result<[bool; 5], NoMemory>
+    requires name { blank.name ≡ L.name }
+    requires parts { blank.parts ≡ L.parts }
+    requires some { blank.parts ≡ 16 }
+{
+    let one = site(alloc, 1)?;
+    let other = site(alloc, 2)?;
+    let maker = FakeMaker::new(rt, alloc, PLAIN, made);
+    let mut world = NetWorld::<FakeMaker<R>, L, R>::new(rt, alloc, maker, blank);
+    let Ok(ten) = world.enter(&one, 10) else {
+        return Err(NoMemory);
+    };
+    let seven = enters(&mut world, &one, 7);
+    let six = enters(&mut world, &one, 6);
+    let others = enters(&mut world, &other, 1);
+    world.leave(ten);
+    let seventeen = enters(&mut world, &one, 17);
+    let sixteen = enters(&mut world, &one, 16);
+    Ok([seven, six, others, seventeen, sixteen])
+}
+
+#[test]
+fn loops_are_parts_of_one_ledger(rt: HostRuntime) -> Result<(), Fail> {
+    let alloc = rt.alloc();
+    // (how many loops can be made, which are entered)
+    let rows = [
+        (99, [false, true, false, false, true]),
+        (16, [false, true, false, false, false]),
+    ];
+    for (made, wanted) in rows {
+        let entered = enter_some::<Brand, _>(rt, alloc, Blank::new(16), made)?;
+        assert_eq!(rt; entered, wanted);
+    }
+    Ok(())
+}

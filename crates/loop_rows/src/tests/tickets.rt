@@ -1,0 +1,166 @@
+ghost use Rattle.std.specs.Prelude.{◌≡◌};
+
+mod fake_kid;
+mod fake_spawner;
+mod fakes;
+
+use booked_children::BookedChildren;
+use child_book::{Blank, Book, Ledger};
+use child_edge::{ChildSet, Spawner};
+use fake_spawner::{FakeSpawner, Plan};
+use host_base::{Bytes, Launch, NoMemory, Pairs, Text, Texts};
+use host_trace::{Act, Event};
+use std::alloc::Global;
+use std::marker::Brand;
+use std::sync::{Arc, Mutex, Wait};
+use std::test::Fail;
+
+fn launch(alloc: Global) -> Result<Launch, NoMemory> {
+    Ok(Launch {
+        program: Text::copy_of(alloc, "a")?,
+        dir: Text::copy_of(alloc, "b")?,
+        args: Texts::new(alloc),
+        env: Pairs::new(alloc),
+    })
+}
+
+// What an event is, by a letter.
+fn letter(event: &Event) -> u8 {
+    match event {
+        Event::Started { .. } => b'S',
+        Event::StartFailed { .. } => b'F',
+        Event::StartFull { .. } => b'U',
+        Event::ChildBytes { .. } => b'b',
+        Event::ChildEof { .. } => b'e',
+        Event::ChildBroken { .. } => b'x',
+        Event::Took { .. } => b't',
+        Event::InputGone { .. } => b'g',
+        Event::Exited { .. } => b'd',
+        _ => b'?',
+    }
+}
+
+// Starts two children, feeds both, and asks so often what they have to tell.
+fn tell<S: Spawner + Drop, L: Ledger, R: Wait + Drop>(
+    alloc: Global,
+    children: &mut BookedChildren<S, L, R>,
+    turns: u32,
+) -> Result<Vec<u8>, NoMemory> {
+    let launch = launch(alloc)?;
+    let mut told = Vec::new(alloc);
+    for k in 0..2u64 {
+        told.push(letter(&children.begin(k, 0, &launch)))?;
+        let bytes = Bytes::from_slice(alloc, b"abc")?;
+        children.act(&Act::Feed { k, bytes });
+        children.act(&Act::EndInput { k });
+    }
+    for _ in 0..turns {
+        children.act(&Act::WantChild { k: 0 });
+        children.act(&Act::WantChild { k: 1 });
+        if let Some(event) = children.poll() {
+            told.push(letter(&event))?;
+        }
+    }
+    Ok(told)
+}
+
+/// What was told, how many ran then, and how many the book counted once they were ended.
+#[derive(Drop)]
+struct Ran {
+    told: Result<Vec<u8>, NoMemory>,
+    running: usize,
+    left: u32,
+}
+
+fn run_children<L: Ledger, R: Wait + Copy + Drop>(
+    rt: R,
+    alloc: Global,
+    blank: Blank,
+    plan: Plan,
+    turns: u32,
+) -> Result<Ran, NoMemory>
+    requires name { blank.name ≡ L.name }
+    requires parts { blank.parts ≡ L.parts }
+    requires some { blank.parts ≡ 16 }
+{
+    let set = ChildSet::new(alloc, FakeSpawner::new(rt, plan), 4)?;
+    let (book, share) = Book::<L>::new(blank, 1);
+    let mut share = share;
+    let Ok(book) = Arc::new(alloc, Mutex::new(book)) else {
+        return Err(NoMemory);
+    };
+    let mut children = BookedChildren::new(rt, alloc, book.clone()?, share.split_off(1, 0), set);
+    let told = tell(alloc, &mut children, turns);
+    let running = children.running();
+    share.merge(children.end());
+    let left = book.lock(&rt).running();
+    Ok(Ran {
+        told,
+        running,
+        left,
+    })
+}
+
+const PLAIN: Plan = Plan {
+    pieces: 3,
+    out_fails: false,
+    in_fails: false,
+    reaps_fail: 0,
+    exits_after: 2,
+    start_fails: false,
+};
+
+// A book of one child.
+#[test]
+fn no_ticket_is_lost(rt: HostRuntime) -> Result<(), Fail> {
+    let alloc = rt.alloc();
+    // (what the programs do, how often they are asked, what is told, how many run then)
+    let rows: [(Plan, u32, &[u8], usize); 6] = [
+        (PLAIN, 9, b"SUtbed", 0),
+        (PLAIN, 1, b"SUt", 1),
+        (
+            Plan {
+                start_fails: true,
+                ..PLAIN
+            },
+            3,
+            b"FF",
+            0,
+        ),
+        (
+            Plan {
+                out_fails: true,
+                ..PLAIN
+            },
+            9,
+            b"SUtbxd",
+            0,
+        ),
+        (
+            Plan {
+                in_fails: true,
+                ..PLAIN
+            },
+            9,
+            b"SUbed",
+            0,
+        ),
+        (
+            Plan {
+                reaps_fail: 100,
+                ..PLAIN
+            },
+            9,
+            b"SUtbe",
+            1,
+        ),
+    ];
+    for (plan, turns, wanted, running) in rows {
+        let ran = run_children::<Brand, _>(rt, alloc, Blank::new(16), plan, turns)?;
+        let told = ran.told?;
+        assert_eq!(rt; told.as_slice(), wanted);
+        assert_eq!(rt; ran.running, running);
+        assert_eq!(rt; ran.left, 0);
+    }
+    Ok(())
+}

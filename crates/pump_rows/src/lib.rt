@@ -1,0 +1,6 @@
+//! Tests of pumps, of the children of a loop and of real children: over fakes in memory, over real threads and over programs of the
+//! system. There is no code beside the tests.
+#![tactic(auto)]
+
+#[cfg(test)]
+mod tests;

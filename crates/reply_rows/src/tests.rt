@@ -1,0 +1,6 @@
+// What is read of an output and written of it, part by part.
+mod derived;
+mod headers;
+mod messages;
+mod replies;
+mod streams;

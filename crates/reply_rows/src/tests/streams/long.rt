@@ -1,0 +1,281 @@
+// Outputs about the size at which a reply begins without a tick, and a header that is about as long.
+use super::{Bad, Ended, GET, HEAD, Hop, OLD, RAW, Rest, is_ended};
+use host_base::{Bytes, Cause, NoMemory};
+use reply_stream::{Asked, Last, Stream};
+use std::alloc::Global;
+
+// A text with so many `a` within it.
+pub type Filled = (&'static str, usize, &'static str);
+
+// What is asked, the output, what is written before its end, and at its end.
+const LONG: [(Asked, Filled, Filled, Filled); 11] = [
+    // The 8,193rd byte begins the reply, and no sooner one.
+    (
+        GET,
+        ("Content-Type: text/plain\n\n", 8166, ""),
+        ("", 0, ""),
+        (
+            "HTTP/1.1 200 OK\r\nContent-Type: text/plain\r\nContent-Length: 8166\r\n\r\n",
+            8166,
+            "",
+        ),
+    ),
+    (
+        GET,
+        ("Content-Type: text/plain\n\n", 8167, ""),
+        (
+            "HTTP/1.1 200 OK\r\nContent-Type: text/plain\r\nTransfer-Encoding: chunked\r\n\r\n1fe7\r\n",
+            8167,
+            "\r\n",
+        ),
+        ("0\r\n\r\n", 0, ""),
+    ),
+    (
+        OLD,
+        ("Content-Type: text/plain\n\n", 8166, ""),
+        ("", 0, ""),
+        (
+            "HTTP/1.1 200 OK\r\nContent-Type: text/plain\r\nContent-Length: 8166\r\n\r\n",
+            8166,
+            "",
+        ),
+    ),
+    (
+        OLD,
+        ("Content-Type: text/plain\n\n", 8167, ""),
+        (
+            "HTTP/1.1 200 OK\r\nContent-Type: text/plain\r\n\r\n",
+            8167,
+            "",
+        ),
+        ("", 0, ""),
+    ),
+    (
+        HEAD,
+        ("Content-Type: text/plain\n\n", 9000, ""),
+        ("HTTP/1.1 200 OK\r\nContent-Type: text/plain\r\n\r\n", 0, ""),
+        ("", 0, ""),
+    ),
+    (RAW, ("", 8192, ""), ("", 0, ""), ("", 8192, "")),
+    (RAW, ("", 8193, ""), ("", 8193, ""), ("", 0, "")),
+    // A header of 8,192 bytes, of 8,191 and of 8,192 with a byte after it.
+    (
+        GET,
+        ("Content-Type: ", 8176, "\n\n"),
+        ("", 0, ""),
+        (
+            "HTTP/1.1 200 OK\r\nContent-Type: ",
+            8176,
+            "\r\nContent-Length: 0\r\n\r\n",
+        ),
+    ),
+    (
+        GET,
+        ("Content-Type: ", 8175, "\n\nx"),
+        ("", 0, ""),
+        (
+            "HTTP/1.1 200 OK\r\nContent-Type: ",
+            8175,
+            "\r\nContent-Length: 1\r\n\r\nx",
+        ),
+    ),
+    (
+        GET,
+        ("Content-Type: ", 8176, "\n\nx"),
+        (
+            "HTTP/1.1 200 OK\r\nContent-Type: ",
+            8176,
+            "\r\nTransfer-Encoding: chunked\r\n\r\n1\r\nx\r\n",
+        ),
+        ("0\r\n\r\n", 0, ""),
+    ),
+    // A redirect without a document.
+    (
+        GET,
+        ("Location: http://x/\n\n", 9000, ""),
+        ("", 0, ""),
+        (
+            "HTTP/1.1 302 Found\r\nLocation: http://x/\r\nContent-Length: 0\r\n\r\n",
+            0,
+            "",
+        ),
+    ),
+];
+
+// Long outputs of which nothing is written.
+const UNWRITTEN: [(Filled, Ended); 5] = [
+    (("Location: /x\n\n", 9000, ""), Hop("/x")),
+    (("Content-Type: ", 8177, "\n\n"), Bad(Cause::HeaderTooLarge)),
+    (("Content-Type: ", 8178, ""), Bad(Cause::HeaderTooLarge)),
+    (("Content-Type: ", 8177, ""), Bad(Cause::HeaderIncomplete)),
+    (("x\n\n", 9000, ""), Bad(Cause::HeaderLine)),
+];
+
+pub fn filled(alloc: Global, text: Filled) -> Result<Vec<u8>, NoMemory> {
+    let mut bytes = Vec::from_slice(alloc, text.0.as_bytes())?;
+    for _ in 0..text.1 {
+        bytes.push(b'a')?;
+    }
+    bytes.extend_from_slice(text.2.as_bytes())?;
+    Ok(bytes)
+}
+
+fn hear(alloc: Global, stream: &mut Stream, piece: &[u8]) -> Result<Bytes, NoMemory> {
+    let piece = Bytes::from_slice(alloc, piece)?;
+    stream.hear(piece, false, None)
+}
+
+// Adds what is written where a piece was told.
+fn push_heard(alloc: Global, stream: &mut Stream, written: &mut Vec<u8>, piece: &[u8]) -> bool {
+    match hear(alloc, stream, piece) {
+        Ok(text) => written.extend_from_slice(text.as_slice()).is_ok(),
+        Err(_) => false,
+    }
+}
+
+// Tells an output in a piece of `first` bytes and then in pieces of `size` bytes: what is written is this.
+fn is_written(
+    alloc: Global,
+    stream: &mut Stream,
+    output: &[u8],
+    cut: (usize, usize),
+    due: &[u8],
+) -> bool {
+    let mut written = Vec::new(alloc);
+    let (first, rest) = output.split_at(cut.0.min(output.len()));
+    let mut right = push_heard(alloc, stream, &mut written, first);
+    for piece in rest.chunks(cut.1.max(1)) {
+        right = right && push_heard(alloc, stream, &mut written, piece);
+    }
+    right && written.as_slice() == due
+}
+
+// The texts of a row.
+#[derive(Drop)]
+struct Texts {
+    asked: Asked,
+    output: Vec<u8>,
+    before: Vec<u8>,
+    rest: Vec<u8>,
+}
+
+fn texts_of(alloc: Global, row: &(Asked, Filled, Filled, Filled)) -> Result<Texts, NoMemory> {
+    Ok(Texts {
+        asked: row.0,
+        output: filled(alloc, row.1)?,
+        before: filled(alloc, row.2)?,
+        rest: filled(alloc, row.3)?,
+    })
+}
+
+fn is_rest(last: &Last, due: &[u8]) -> bool {
+    match last {
+        Last::Written(text) => text.as_slice() == due,
+        Last::Hop(_) => false,
+        Last::Bad(_) => false,
+    }
+}
+
+fn is_long_row(alloc: Global, texts: &Texts, first: usize, size: usize) -> bool {
+    let mut stream = Stream::new(alloc, texts.asked);
+    let before = texts.before.as_slice();
+    let written = is_written(
+        alloc,
+        &mut stream,
+        texts.output.as_slice(),
+        (first, size),
+        before,
+    );
+    let begun = stream.has_begun();
+    match stream.end(false, None) {
+        Ok(last) => written && begun == !before.is_empty() && is_rest(&last, texts.rest.as_slice()),
+        Err(_) => false,
+    }
+}
+
+// Whether it is written so in single bytes, and cut in two at every 97th place and at the last ones.
+fn is_long_row_however_cut(alloc: Global, texts: &Texts) -> bool {
+    let len = texts.output.len();
+    for count in 0..len / 97 + 1 {
+        if !is_long_row(alloc, texts, count.saturating_mul(97), len) {
+            return false;
+        }
+    }
+    for before in 0..4 {
+        if !is_long_row(alloc, texts, len.saturating_sub(before), 1) {
+            return false;
+        }
+    }
+    is_long_row(alloc, texts, 0, 1)
+}
+
+fn is_long(alloc: Global, row: &(Asked, Filled, Filled, Filled)) -> bool {
+    match texts_of(alloc, row) {
+        Ok(texts) => is_long_row_however_cut(alloc, &texts),
+        Err(_) => false,
+    }
+}
+
+#[test]
+fn long_outputs(rt: HostRuntime) {
+    for row in LONG.iter() {
+        assert!(&rt; is_long(rt.alloc(), row), "{} {}", row.1.0, row.1.1);
+    }
+}
+
+fn is_unwritten_as(alloc: Global, output: &[u8], ended: Ended, first: usize, size: usize) -> bool {
+    let mut stream = Stream::new(alloc, GET);
+    let written = is_written(alloc, &mut stream, output, (first, size), b"");
+    let begun = stream.has_begun();
+    match stream.end(false, None) {
+        Ok(last) => written && !begun && is_ended(&last, ended),
+        Err(_) => false,
+    }
+}
+
+fn is_unwritten(alloc: Global, row: &(Filled, Ended)) -> bool {
+    match filled(alloc, row.0) {
+        Ok(output) => {
+            is_unwritten_as(alloc, output.as_slice(), row.1, 0, 1)
+                && is_unwritten_as(alloc, output.as_slice(), row.1, 0, 8192)
+                && is_unwritten_as(alloc, output.as_slice(), row.1, 0, 10_000)
+                && is_unwritten_as(alloc, output.as_slice(), row.1, 8191, 1)
+        }
+        Err(_) => false,
+    }
+}
+
+#[test]
+fn long_outputs_of_which_nothing_is_written(rt: HostRuntime) {
+    for row in UNWRITTEN.iter() {
+        assert!(&rt; is_unwritten(rt.alloc(), row), "{} {}", row.0.0, row.0.1);
+    }
+}
+
+// Tells a piece: this is written.
+fn is_answered(stream: &mut Stream, piece: Vec<u8>, close: bool, due: &[u8]) -> bool {
+    match stream.hear(Bytes::from_vec(piece), close, None) {
+        Ok(text) => text.as_slice() == due,
+        Err(_) => false,
+    }
+}
+
+// A long document in one piece, one byte more, and the end.
+#[test]
+fn a_long_document(rt: HostRuntime) -> Result<(), NoMemory> {
+    let output = filled(rt.alloc(), ("Content-Type: text/plain\n\n", 9000, ""))?;
+    let begun = filled(
+        rt.alloc(),
+        (
+            "HTTP/1.1 200 OK\r\nContent-Type: text/plain\r\nTransfer-Encoding: chunked\r\nConnection: close\r\n\r\n2328\r\n",
+            9000,
+            "\r\n",
+        ),
+    )?;
+    let more = filled(rt.alloc(), ("b", 0, ""))?;
+    let mut stream = Stream::new(rt.alloc(), GET);
+    assert!(&rt; is_answered(&mut stream, output, true, begun.as_slice()));
+    assert!(&rt; is_answered(&mut stream, more, false, b"1\r\nb\r\n"));
+    assert!(&rt; is_ended(&stream.end(false, None)?, Rest("0\r\n\r\n")));
+    Ok(())
+}

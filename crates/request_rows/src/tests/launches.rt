@@ -1,0 +1,404 @@
+// Environments and launches, by the rows of RFC 3875 4.1 and of the other sections that they come from.
+ghost use Rattle.std.specs.Prelude.{◌≡◌, [], IfOk, IsTrue, is_some, option_and_then, slice_get};
+ghost use Rattle.std.specs.Option.{option_copied};
+ghost use Rattle.std.specs.Str.{is_utf8};
+ghost use Rattle.host_base.specs.SiteRules.{HasHosts, HasScripts};
+ghost use Rattle.meta_variables.specs.Launch.{HasTexts, NamesScript, is_text_or_none, script_in};
+
+use host_base::{
+    Bytes, Cause, Docs, Field, Fields, Framing, Hosts, Launch, Limits, Mapped, NoMemory, Pairs,
+    Peer, Refusal, Request, Script, ScriptKind, Scripts, Site, Target, Text, Texts, VHost, Version,
+};
+use meta_variables::{environment, gateway_launch, launch};
+use std::alloc::Global;
+
+fn script(alloc: Global, path: &str, program: &str, kind: ScriptKind) -> Result<Script, NoMemory>
+    ensures { IfOk result (λ script. script.path ≡ path.now) }
+{
+    Ok(Script {
+        path: Text::copy_of(alloc, path)?,
+        program: Text::copy_of(alloc, program)?,
+        kind,
+        origins: None,
+    })
+}
+
+fn scripts(alloc: Global, program: &str) -> Result<Scripts, NoMemory>
+    ensures { IfOk result HasScripts }
+{
+    let first = script(alloc, "/cgi-bin", program, ScriptKind::Cgi)?;
+    let second = script(alloc, "/ws", "/srv/ws", ScriptKind::WebSocket)?;
+    Ok(Scripts::from_vec(Vec::from_array(alloc, [first, second])?))
+}
+
+fn host(alloc: Global, program: &str) -> Result<VHost, NoMemory>
+    ensures aliases { IfOk result (λ host. host.aliases ≡ []) }
+    ensures scripts { IfOk result (λ host. HasScripts host.scripts) }
+{
+    Ok(VHost {
+        name: Text::copy_of(alloc, "localhost")?,
+        aliases: Texts::new(alloc),
+        any: true,
+        root: Text::copy_of(alloc, "/srv/www")?,
+        scripts: scripts(alloc, program)?,
+    })
+}
+
+fn hosts(alloc: Global, program: &str) -> Result<Hosts, NoMemory>
+    ensures { IfOk result HasHosts }
+{
+    let only = host(alloc, program)?;
+    Ok(Hosts::from_vec(Vec::from_array(alloc, [only])?))
+}
+
+// A site of one host, with `/cgi-bin` and a script that speaks WebSocket.
+fn site(alloc: Global, program: &str) -> Result<Site, NoMemory>
+    ensures { IfOk result (λ site. HasHosts site.hosts) }
+{
+    Ok(Site {
+        listen: Text::copy_of(alloc, "127.0.0.1")?,
+        port: 8080,
+        limits: Limits::default(),
+        hosts: hosts(alloc, program)?,
+        docs: Docs::new(alloc),
+    })
+}
+
+fn bytes_or_none(alloc: Global, word: &str) -> Result<Option<Bytes>, NoMemory> {
+    if word == "-" {
+        return Ok(None);
+    }
+    let value = if word == "_" { "" } else { word };
+    Ok(Some(Bytes::from_slice(alloc, value.as_bytes())?))
+}
+
+fn field(alloc: Global, line: &[u8]) -> Result<Field, NoMemory> {
+    let at = line
+        .iter()
+        .position(|byte| *byte == b'=')
+        .unwrap_or(line.len());
+    let (name, value) = line.split_at(at);
+    Ok(Field {
+        name: Bytes::from_slice(alloc, name)?,
+        value: Bytes::from_slice(alloc, value.get(1..).unwrap_or(b""))?,
+    })
+}
+
+// Fields, each a line `NAME=VALUE`.
+fn fields(alloc: Global, lines: &[u8]) -> Result<Fields, NoMemory> {
+    let mut fields = Fields::new(alloc);
+    for line in lines.split(|byte| *byte == b'\n') {
+        if !line.is_empty() {
+            fields.push(field(alloc, line)?)?;
+        }
+    }
+    Ok(fields)
+}
+
+// What a request is, beside its fields and its framing: method, query, host and version, with a space
+// between. `-` is none and `_` an empty one.
+fn request(alloc: Global, line: &str, lines: &[u8], framing: Framing) -> Result<Request, NoMemory> {
+    let mut words = line.split(' ');
+    let method = words.next().unwrap_or("GET");
+    let query = words.next().unwrap_or("-");
+    let host = words.next().unwrap_or("-");
+    let version = if words.next() == Some("1.0") {
+        Version::V10
+    } else {
+        Version::V11
+    };
+    Ok(Request {
+        method: Bytes::from_slice(alloc, method.as_bytes())?,
+        target: Target {
+            path: Bytes::from_slice(alloc, b"/cgi-bin")?,
+            query: bytes_or_none(alloc, query)?,
+            host: bytes_or_none(alloc, host)?,
+        },
+        version,
+        fields: fields(alloc, lines)?,
+        framing,
+        body: Bytes::from_slice(alloc, b"x=1")?,
+    })
+}
+
+fn is_text(bytes: &[u8]) -> bool
+    ensures { result ≡ is_utf8 bytes.now }
+{
+    str::from_utf8(bytes).is_ok()
+}
+
+fn is_text_or_none(bytes: &Option<Bytes>) -> bool
+    ensures { result ≡ is_text_or_none bytes.now }
+{
+    match bytes {
+        Some(bytes) => is_text(bytes.as_slice()),
+        None => true,
+    }
+}
+
+fn has_texts(request: &Request) -> bool
+    ensures { IsTrue result → HasTexts request.now }
+{
+    is_text(request.method.as_slice())
+        && is_text_or_none(&request.target.query)
+        && is_text_or_none(&request.target.host)
+}
+
+fn names_script(site: &Site, mapped: &Mapped) -> bool
+    ensures { IsTrue result → NamesScript site.now mapped.now }
+{
+    match site.hosts.as_slice().get(mapped.host as usize) {
+        Some(host) => host.scripts.as_slice().get(mapped.index as usize).is_some(),
+        None => false,
+    }
+}
+
+fn mapped(alloc: Global, name: &str, info: &str) -> Result<Mapped, NoMemory> {
+    Ok(Mapped {
+        host: 0,
+        index: 0,
+        script_name: Text::copy_of(alloc, name)?,
+        path_info: Text::copy_of(alloc, info)?,
+    })
+}
+
+// Variables, each a line `NAME=VALUE`.
+fn shown(alloc: Global, env: &Pairs) -> Result<String, NoMemory> {
+    let mut text = String::new(alloc);
+    for pair in env.as_slice() {
+        text.push_str(pair.name.as_str())?;
+        text.push('=')?;
+        text.push_str(pair.value.as_str())?;
+        text.push('\n')?;
+    }
+    Ok(text)
+}
+
+// The environment of a request for the script `/cgi-bin/hello`.
+fn asked(alloc: Global, request: &Request, info: &str) -> Result<String, NoMemory> {
+    let site = site(alloc, "/srv/cgi/hello")?;
+    let mapped = mapped(alloc, "/cgi-bin/hello", info)?;
+    let peer = Peer(Text::copy_of(alloc, "192.0.2.1")?);
+    if !has_texts(request) || !names_script(&site, &mapped) {
+        return String::from_str(alloc, "no texts").map_err(NoMemory::from);
+    }
+    let env = environment(alloc, &site, &peer, request, &mapped)?;
+    shown(alloc, &env)
+}
+
+const EVERY_VARIABLE: &str = "\
+CONTENT_LENGTH=3
+CONTENT_TYPE=a/b, c/d
+GATEWAY_INTERFACE=CGI/1.1
+PATH_INFO=/a b/
+PATH_TRANSLATED=/srv/www/a b/
+QUERY_STRING=x=1
+REMOTE_ADDR=192.0.2.1
+REMOTE_HOST=192.0.2.1
+REQUEST_METHOD=POST
+SCRIPT_NAME=/cgi-bin/hello
+SERVER_NAME=example.com
+SERVER_PORT=8080
+SERVER_PROTOCOL=HTTP/1.1
+SERVER_SOFTWARE=cgihost/1
+HTTP_HOST=example.com:8080
+HTTP_COOKIE=a=1; b=2
+HTTP_X_9=é, ÿ, z
+HTTP_ACCEPT_LANGUAGE=en
+";
+
+#[test]
+fn every_variable(rt: HostRuntime) -> Result<(), NoMemory> {
+    let lines = b"Host=example.com:8080\ncOOKIE= a=1 \nX-9=\xC3\xA9\ncontent-TYPE=a/b\nProxy=p\n\
+Authorization=s\nproxy-AUTHORIZATION=s\nContent-Length=3\nTransfer-Encoding=chunked\nConnection=X-9\n\
+Expect=100-continue\nUpgrade=h2c\nX_9=u\nx.9=u\nx-9=\xFF\nCookie=\nCookie=\tb=2\nContent-Type=c/d\n\
+Accept-Language=en\nX-9= z\nEmpty= \nContent-Type=";
+    let request = request(
+        rt.alloc(),
+        "POST x=1 example.com 1.1",
+        lines,
+        Framing::Chunked,
+    )?;
+    let given = asked(rt.alloc(), &request, "/a b/")?;
+    assert!(&rt; given.as_str() == EVERY_VARIABLE);
+    Ok(())
+}
+
+const FEW_VARIABLES: &str = "\
+GATEWAY_INTERFACE=CGI/1.1
+QUERY_STRING=
+REMOTE_ADDR=192.0.2.1
+REMOTE_HOST=192.0.2.1
+REQUEST_METHOD=GET
+SCRIPT_NAME=/cgi-bin/hello
+SERVER_NAME=localhost
+SERVER_PORT=8080
+SERVER_PROTOCOL=HTTP/1.0
+SERVER_SOFTWARE=cgihost/1
+";
+
+#[test]
+fn few_variables(rt: HostRuntime) -> Result<(), NoMemory> {
+    for line in ["GET - - 1.0", "GET _ - 1.0"] {
+        let request = request(rt.alloc(), line, b"", Framing::Empty)?;
+        let given = asked(rt.alloc(), &request, "")?;
+        assert!(&rt; given.as_str() == FEW_VARIABLES, "{line}");
+    }
+    Ok(())
+}
+
+fn first_line(alloc: Global, framing: Framing) -> Result<String, NoMemory> {
+    let request = request(alloc, "GET - [::1]", b"", framing)?;
+    let given = asked(alloc, &request, "")?;
+    let line = given.as_str().lines().next().unwrap_or("");
+    Ok(String::from_str(alloc, line)?)
+}
+
+#[test]
+fn lengths(rt: HostRuntime) -> Result<(), NoMemory> {
+    for (framing, line) in [
+        (Framing::Empty, "GATEWAY_INTERFACE=CGI/1.1"),
+        (Framing::Length(0), "CONTENT_LENGTH=0"),
+        (Framing::Length(1048576), "CONTENT_LENGTH=1048576"),
+        (
+            Framing::Length(u64::MAX),
+            "CONTENT_LENGTH=18446744073709551615",
+        ),
+        (Framing::Chunked, "CONTENT_LENGTH=3"),
+    ] {
+        assert!(&rt; first_line(rt.alloc(), framing)?.as_str() == line, "{line}");
+    }
+    Ok(())
+}
+
+// A launch in one line: its program, its folder and its arguments, with a bar after each.
+fn shown_launch(alloc: Global, launch: &Launch) -> Result<String, NoMemory> {
+    let mut text = String::from_str(alloc, launch.program.as_str())?;
+    text.push(' ')?;
+    text.push_str(launch.dir.as_str())?;
+    text.push(' ')?;
+    for arg in launch.args.as_slice() {
+        text.push_str(arg.as_str())?;
+        text.push('|')?;
+    }
+    Ok(text)
+}
+
+// What is started for a method and a query.
+fn launched(alloc: Global, program: &str, line: &str) -> Result<String, NoMemory> {
+    let site = site(alloc, program)?;
+    let mapped = mapped(alloc, "/cgi-bin", "")?;
+    let peer = Peer(Text::copy_of(alloc, "192.0.2.1")?);
+    let request = request(alloc, line, b"", Framing::Empty)?;
+    if !has_texts(&request) || !names_script(&site, &mapped) {
+        return String::from_str(alloc, "no texts").map_err(NoMemory::from);
+    }
+    let given = launch(alloc, &site, &peer, &request, &mapped)?;
+    shown_launch(alloc, &given)
+}
+
+#[test]
+fn launches(rt: HostRuntime) -> Result<(), NoMemory> {
+    for (program, line, wanted) in [
+        ("/x", "GET a+b%2Fc a", "/x / a|b/c|"),
+        ("/a/b", "HEAD a a", "/a/b /a a|"),
+        ("/a/b/c", "GET a=b a", "/a/b/c /a/b "),
+        ("b", "POST a+b a", "b / "),
+        ("/a/b", "GET - a", "/a/b /a "),
+    ] {
+        assert!(&rt;
+            launched(rt.alloc(), program, line)?.as_str() == wanted,
+            "{wanted}"
+        );
+    }
+    Ok(())
+}
+
+// What a gateway's variables start, and then the environment.
+fn from_gateway(alloc: Global, lines: &[u8]) -> Result<String, NoMemory> {
+    let site = site(alloc, "/srv/cgi/hello")?;
+    let pairs = fields(alloc, lines)?;
+    match gateway_launch(alloc, &site, &pairs) {
+        Ok(launch) => {
+            let mut text = shown_launch(alloc, &launch)?;
+            text.push('\n')?;
+            text.push_str(shown(alloc, &launch.env)?.as_str())?;
+            Ok(text)
+        }
+        Err(Refusal::Cause(_)) => Ok(String::from_str(alloc, "refused")?),
+        Err(Refusal::NoMemory) => Err(NoMemory),
+    }
+}
+
+const BY_NAME: &[u8] = b"CONTENT_LENGTH=0\nSCGI=1\nREQUEST_METHOD=GET\nSCRIPT_NAME=/cgi-bin";
+
+const FROM_NAME: &str = "\
+/srv/cgi/hello /srv/cgi \nCONTENT_LENGTH=0
+REQUEST_METHOD=GET
+GATEWAY_INTERFACE=CGI/1.1
+SCRIPT_NAME=/cgi-bin
+";
+
+const BY_URI: &[u8] = b"SCGI=1\nREQUEST_METHOD=GET\nQUERY_STRING=a+b\nREQUEST_URI=/x/../cgi-bin?q";
+
+const FROM_URI: &str = "\
+/srv/cgi/hello /srv/cgi a|b|
+REQUEST_METHOD=GET
+QUERY_STRING=a+b
+REQUEST_URI=/x/../cgi-bin?q
+GATEWAY_INTERFACE=CGI/1.1
+SCRIPT_NAME=/cgi-bin
+";
+
+const MANY: &[u8] = b"SCRIPT_NAME=/cgi-bin/\xC3\xA9\nPATH_INFO=/%2F\nGATEWAY_INTERFACE=x\n\
+PATH_TRANSLATED=/x\nHTTP_PROXY=p\nHTTP_AUTHORIZATION=s\nHTTP_PROXY_AUTHORIZATION=s\nX-1=u\nEMPTY=\n\
+QUERY_STRING=\nHTTP_X= \xE9\t\nhttp_x=1";
+
+const FROM_MANY: &str = "\
+/srv/cgi/hello /srv/cgi \nQUERY_STRING=
+HTTP_X=é
+http_x=1
+GATEWAY_INTERFACE=CGI/1.1
+SCRIPT_NAME=/cgi-bin
+PATH_INFO=/é/%2F
+PATH_TRANSLATED=/srv/www/é/%2F
+";
+
+#[test]
+fn gateways(rt: HostRuntime) -> Result<(), NoMemory> {
+    assert!(&rt; from_gateway(rt.alloc(), BY_NAME)?.as_str() == FROM_NAME);
+    assert!(&rt; from_gateway(rt.alloc(), BY_URI)?.as_str() == FROM_URI);
+    assert!(&rt; from_gateway(rt.alloc(), MANY)?.as_str() == FROM_MANY);
+    Ok(())
+}
+
+// Whether a gateway's variables are refused for a cause.
+fn is_refused(alloc: Global, lines: &[u8], cause: Cause) -> Result<bool, NoMemory> {
+    let site = site(alloc, "/srv/cgi/hello")?;
+    let pairs = fields(alloc, lines)?;
+    match gateway_launch(alloc, &site, &pairs) {
+        Ok(_) => Ok(false),
+        Err(Refusal::Cause(given)) => Ok(given == cause),
+        Err(Refusal::NoMemory) => Err(NoMemory),
+    }
+}
+
+#[test]
+fn refused_gateways(rt: HostRuntime) -> Result<(), NoMemory> {
+    for (lines, cause) in [
+        (b"REQUEST_METHOD=GET".as_slice(), Cause::BadParams),
+        (b"REQUEST_URI=http://a/cgi-bin", Cause::BadParams),
+        (b"SCRIPT_NAME=\nREQUEST_URI=/cgi-bin", Cause::BadParams),
+        (b"SCRIPT_NAME=cgi-bin", Cause::BadParams),
+        (b"REQUEST_URI=/cgi-bin/%zz", Cause::BadPath),
+        (b"SCRIPT_NAME=/cgi-bin\nPATH_INFO=/\xFF", Cause::BadPath),
+        (b"SCRIPT_NAME=/cgi-bin\nPATH_INFO=/..", Cause::NoScript),
+        (b"SCRIPT_NAME=/cgi-bin\nPATH_INFO=/\0", Cause::NoScript),
+        (b"REQUEST_URI=/cgi-bin%2F", Cause::NoScript),
+        (b"SCRIPT_NAME=/ws", Cause::NoScript),
+        (b"SCRIPT_NAME=/none\nHTTP_HOST=a@b", Cause::NoScript),
+    ] {
+        assert!(&rt; is_refused(rt.alloc(), lines, cause)?);
+    }
+    Ok(())
+}

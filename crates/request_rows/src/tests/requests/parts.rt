@@ -1,0 +1,121 @@
+// Which requests end the connection, and what a local redirect keeps of one.
+use super::reading::{LIMITS, next_whole};
+use host_base::{Bytes, Field, NoMemory, Request, Target};
+use request_reader::{ReqReader, persists, redirected};
+use std::alloc::Global;
+
+// The one request of a text.
+fn request_of(alloc: Global, text: &[u8]) -> Option<Request> {
+    let mut reader = ReqReader::new(alloc, &LIMITS);
+    if reader.feed(text).is_err() {
+        return None;
+    }
+    next_whole(&mut reader)
+}
+
+// Heads, and whether another request may follow on the connection.
+const LASTING: [(&[u8], bool); 10] = [
+    (b"GET / HTTP/1.1\r\nHost: a\r\n\r\n", true),
+    (b"GET / HTTP/1.0\r\nHost: a\r\n\r\n", false),
+    (b"GET / HTTP/1.0\r\nConnection: keep-alive\r\n\r\n", false),
+    (
+        b"GET / HTTP/1.1\r\nHost: a\r\nConnection: close\r\n\r\n",
+        false,
+    ),
+    (
+        b"GET / HTTP/1.1\r\nHost: a\r\nCONNECTION: Close\r\n\r\n",
+        false,
+    ),
+    (
+        b"GET / HTTP/1.1\r\nHost: a\r\nConnection: upgrade,\tCLOSE ,\r\n\r\n",
+        false,
+    ),
+    (
+        b"GET / HTTP/1.1\r\nHost: a\r\nConnection: a\r\nConnection: close\r\n\r\n",
+        false,
+    ),
+    (
+        b"GET / HTTP/1.1\r\nHost: a\r\nConnection: closed, a close\r\n\r\n",
+        true,
+    ),
+    (b"GET / HTTP/1.1\r\nHost: a\r\nConnection: ,,\r\n\r\n", true),
+    (b"GET / HTTP/1.1\r\nHost: a\r\nClose: close\r\n\r\n", true),
+];
+
+fn is_lasting(alloc: Global, text: &[u8], lasting: bool) -> bool {
+    match request_of(alloc, text) {
+        Some(request) => persists(&request) == lasting,
+        None => false,
+    }
+}
+
+#[test]
+fn which_requests_end_the_connection(rt: HostRuntime) {
+    for (text, lasting) in LASTING.iter() {
+        assert!(&rt; is_lasting(rt.alloc(), text, *lasting), "{}", text.len());
+    }
+}
+
+// Requests, the method after a local redirect, and the names of the field lines that are kept.
+const REDIRECTS: [(&[u8], &[u8], &[&[u8]]); 3] = [
+    (
+        b"HEAD / HTTP/1.1\r\nHost: a\r\nX: y\r\nhost2: a\r\n\r\n",
+        b"HEAD",
+        &[b"Host", b"X", b"host2"],
+    ),
+    (b"head / HTTP/1.1\r\nHost: a\r\n\r\n", b"GET", &[b"Host"]),
+    (
+        b"POST / HTTP/1.1\r\ncontent-LENGTH: 2\r\nContent-Type: a\r\nExpect: 100-continue\r\nCookie: c\r\nUpgrade: w\r\nConnection: close\r\nsec-websocket-Key: k\r\nSec-WebSocket-: k\r\nSec-WebSocket: kept\r\nContent: kept\r\nHost: a\r\n\r\nab",
+        b"GET",
+        &[b"Cookie", b"Sec-WebSocket", b"Content", b"Host"],
+    ),
+];
+
+fn has_names(fields: &[Field], names: &[&[u8]]) -> bool {
+    for (field, name) in fields.iter().zip(names.iter()) {
+        if field.name.as_slice() != *name {
+            return false;
+        }
+    }
+    fields.len() == names.len()
+}
+
+fn is_as(made: &Request, request: &Request, method: &[u8]) -> bool {
+    made.method.as_slice() == method
+        && made.target.path.as_slice() == b"/new".as_slice()
+        && made.version == request.version
+        && made.body.is_empty()
+}
+
+fn new_target(alloc: Global) -> Result<Target, NoMemory> {
+    Ok(Target {
+        path: Bytes::from_slice(alloc, b"/new")?,
+        query: None,
+        host: None,
+    })
+}
+
+fn redirect_of(alloc: Global, request: &Request) -> Result<Request, NoMemory> {
+    redirected(alloc, request, new_target(alloc)?)
+}
+
+fn is_redirected(alloc: Global, text: &[u8], method: &[u8], names: &[&[u8]]) -> bool {
+    let Some(request) = request_of(alloc, text) else {
+        return false;
+    };
+    match redirect_of(alloc, &request) {
+        Ok(made) => is_as(&made, &request, method) && has_names(made.fields.as_slice(), names),
+        Err(_) => false,
+    }
+}
+
+#[test]
+fn what_a_local_redirect_keeps(rt: HostRuntime) {
+    for (text, method, names) in REDIRECTS.iter() {
+        assert!(&rt;
+            is_redirected(rt.alloc(), text, method, names),
+            "{}",
+            text.len()
+        );
+    }
+}

@@ -1,0 +1,202 @@
+// A text that is read in pieces, beside what is due of it.
+use host_base::{Cause, Limits, Request};
+use request_reader::{ReqReader, ReqStep};
+use std::alloc::Global;
+
+pub const LIMITS: Limits = Limits {
+    head: 1024,
+    target: 64,
+    body: 40,
+    output: 8192,
+    run_ticks: 300,
+    idle_ticks: 150,
+    linger_ticks: 20,
+    redirects: 10,
+    connections: 256,
+    children: 64,
+    ws_text: 65_536,
+};
+
+// The path and the body of a request.
+pub type Due = (&'static [u8], &'static [u8]);
+
+// Another request, and what is due of it.
+pub const NEXT: &[u8] = b"\r\nGET /next HTTP/1.0\r\n\r\n";
+
+const NEXT_DUE: Due = (b"/next", b"");
+
+// What is due of a text: the requests that are given, whether NEXT follows them, and the fault behind them; then whether
+// another request has begun and how many bytes are left, or that one has begun.
+#[derive(Clone, Copy)]
+pub struct Expected {
+    pub due: &'static [Due],
+    pub followed: bool,
+    pub fault: Option<(Cause, bool)>,
+    pub left: Option<(bool, usize)>,
+}
+
+impl Expected {
+    fn due_at(self, at: usize) -> Option<Due> {
+        match self.due.get(at) {
+            Some(due) => Some(*due),
+            None if self.followed && at == self.due.len() => Some(NEXT_DUE),
+            None => None,
+        }
+    }
+
+    fn count(self) -> usize {
+        if self.followed {
+            self.due.len().saturating_add(1)
+        } else {
+            self.due.len()
+        }
+    }
+}
+
+fn is_due(request: &Request, due: Option<Due>) -> bool {
+    match due {
+        Some((path, body)) => {
+            request.target.path.as_slice() == path && request.body.as_slice() == body
+        }
+        None => false,
+    }
+}
+
+// Adds a part so many times.
+pub fn push_times(text: &mut Vec<u8>, part: &[u8], times: usize) -> bool {
+    for _ in 0..times {
+        if text.extend_from_slice(part).is_err() {
+            return false;
+        }
+    }
+    true
+}
+
+fn whole_of(step: ReqStep) -> Option<Request> {
+    match step {
+        ReqStep::Whole(request) => Some(request),
+        ReqStep::More { .. } => None,
+        ReqStep::Bad { .. } => None,
+    }
+}
+
+// The whole request that a reader gives.
+pub fn next_whole(reader: &mut ReqReader) -> Option<Request> {
+    match reader.step() {
+        Ok(step) => whole_of(step),
+        Err(_) => None,
+    }
+}
+
+// What was read so far: how many requests were given, whether each was the one that is due, and the fault behind them.
+#[derive(Drop)]
+struct Reading {
+    reader: ReqReader,
+    given: usize,
+    right: bool,
+    fault: Option<(Cause, bool)>,
+}
+
+impl Reading {
+    // Takes an answer, and says whether another one may follow.
+    fn takes(&mut self, step: ReqStep, expected: Expected) -> bool {
+        match step {
+            ReqStep::Whole(request) => {
+                self.right = self.right && is_due(&request, expected.due_at(self.given));
+                self.given = self.given.saturating_add(1);
+                true
+            }
+            ReqStep::More { .. } => false,
+            ReqStep::Bad { cause, bare } => {
+                self.fault = Some((cause, bare));
+                false
+            }
+        }
+    }
+
+    fn steps(&mut self, expected: Expected) -> bool {
+        match self.reader.step() {
+            Ok(step) => self.takes(step, expected),
+            Err(_) => {
+                self.right = false;
+                false
+            }
+        }
+    }
+
+    // Takes all answers that are due now.
+    fn look(&mut self, expected: Expected) {
+        for _ in 0..expected.count().saturating_add(1) {
+            if !self.steps(expected) {
+                return;
+            }
+        }
+        self.right = false;
+    }
+
+    fn feed(&mut self, piece: &[u8], expected: Expected) {
+        if self.reader.feed(piece).is_err() {
+            self.right = false;
+        }
+        self.look(expected);
+    }
+
+    // What is left is the end of the text.
+    fn is_left(&self, text: &[u8], expected: Expected) -> bool {
+        let rest = self.reader.rest();
+        let begun = self.reader.begun();
+        match expected.left {
+            Some((due, len)) => begun == due && text.ends_with(rest) && rest.len() == len,
+            None => begun,
+        }
+    }
+
+    fn is_right(&self, text: &[u8], expected: Expected) -> bool {
+        let given = self.right && self.given == expected.count();
+        given && self.fault == expected.fault && self.is_left(text, expected)
+    }
+}
+
+// Whether the text in pieces of `first` bytes and then of `size` bytes has the answers that are due.
+fn is_answered(alloc: Global, first: usize, size: usize, text: &[u8], expected: Expected) -> bool {
+    let mut reading = Reading {
+        reader: ReqReader::new(alloc, &LIMITS),
+        given: 0,
+        right: true,
+        fault: None,
+    };
+    let (first, rest) = text.split_at(first.min(text.len()));
+    reading.look(expected);
+    reading.feed(first, expected);
+    for piece in rest.chunks(size.max(1)) {
+        reading.feed(piece, expected);
+    }
+    reading.is_right(text, expected)
+}
+
+// Whether it has them whole, byte by byte, and cut in two at each place.
+pub fn is_answered_however_cut(alloc: Global, text: &[u8], expected: Expected) -> bool {
+    for first in 0..text.len() + 1 {
+        if !is_answered(alloc, first, text.len(), text, expected) {
+            return false;
+        }
+    }
+    is_answered(alloc, 0, 1, text, expected)
+}
+
+// Whether such a text is refused, with a request of its own behind none.
+pub fn is_refused(
+    alloc: Global,
+    text: &[u8],
+    cause: Cause,
+    bare: bool,
+    left: Option<(bool, usize)>,
+) -> bool {
+    let expected = Expected {
+        due: &[],
+        followed: false,
+        fault: Some((cause, bare)),
+        left,
+    };
+    is_answered_however_cut(alloc, text, expected)
+}

@@ -1,0 +1,192 @@
+// What is waited for, and what is served and handed out before its end.
+use super::reading::{LIMITS, next_whole};
+use host_base::{Bytes, Request};
+use request_reader::{ReqReader, ReqStep};
+use std::alloc::Global;
+
+// Requests that have not ended, whether 100 Continue is due, and their body so far where they can be
+// served early.
+const UNENDED: [(&[u8], bool, Option<&[u8]>); 14] = [
+    (b"", false, None),
+    (b"GET / HTTP/1.1\r\nHost: a\r\n\r", false, None),
+    (
+        b"POST / HTTP/1.1\r\nHost: a\r\nContent-Length: 3\r\n\r\n",
+        false,
+        Some(b""),
+    ),
+    (
+        b"POST / HTTP/1.1\r\nHost: a\r\nContent-Length: 3\r\n\r\nab",
+        false,
+        Some(b"ab"),
+    ),
+    (
+        b"POST / HTTP/1.1\r\nHost: a\r\nExpect: 100-continue\r\nContent-Length: 3\r\n\r",
+        false,
+        None,
+    ),
+    (
+        b"POST / HTTP/1.1\r\nHost: a\r\nExpect: 100-continue\r\nContent-Length: 3\r\n\r\n",
+        true,
+        Some(b""),
+    ),
+    (
+        b"POST / HTTP/1.1\r\nHost: a\r\nExpect: 100-Continue\r\nContent-Length: 3\r\n\r\nab",
+        true,
+        Some(b"ab"),
+    ),
+    (
+        b"POST / HTTP/1.1\r\nHost: a\r\nexpect: 100-continue,, 100-continue\r\nContent-Length: 3\r\n\r\n",
+        true,
+        Some(b""),
+    ),
+    (
+        b"POST / HTTP/1.1\r\nHost: a\r\nExpect: 100-continue\r\nExpect: 100-continue\r\nContent-Length: 3\r\n\r\n",
+        true,
+        Some(b""),
+    ),
+    (
+        b"POST / HTTP/1.1\r\nHost: a\r\nExpect:\r\nContent-Length: 3\r\n\r\n",
+        false,
+        Some(b""),
+    ),
+    (
+        b"POST / HTTP/1.0\r\nExpect: 100-continue\r\nContent-Length: 3\r\n\r\n",
+        false,
+        Some(b""),
+    ),
+    (
+        b"POST / HTTP/1.1\r\nHost: a\r\nTransfer-Encoding: chunked\r\n\r\n",
+        false,
+        None,
+    ),
+    (
+        b"POST / HTTP/1.1\r\nHost: a\r\nTransfer-Encoding: chunked\r\n\r\n5\r\nabc",
+        false,
+        None,
+    ),
+    (
+        b"POST / HTTP/1.1\r\nHost: a\r\nExpect: 100-continue\r\nTransfer-Encoding: chunked\r\n\r\n5",
+        true,
+        None,
+    ),
+];
+
+// Feeds a text in pieces of `first` bytes and then of `size` bytes, and looks behind each but the last.
+fn is_fed(reader: &mut ReqReader, text: &[u8], first: usize, size: usize) -> bool {
+    let (first, rest) = text.split_at(first.min(text.len()));
+    let mut right = reader.feed(first).is_ok();
+    for piece in rest.chunks(size.max(1)) {
+        right = right && reader.early().is_ok() && reader.feed(piece).is_ok();
+    }
+    right
+}
+
+fn has_body(request: Option<Request>, body: Option<&[u8]>) -> bool {
+    match (request, body) {
+        (Some(request), Some(body)) => request.body.as_slice() == body,
+        (Some(_), None) => false,
+        (None, body) => body.is_none(),
+    }
+}
+
+// What `early` gives has the body that is due, which is then handed out.
+fn is_early(reader: &mut ReqReader, body: Option<&[u8]>) -> bool {
+    let given = match reader.early() {
+        Ok(request) => has_body(request, body),
+        Err(_) => false,
+    };
+    given && reader.take_body().as_slice() == body.unwrap_or(b"")
+}
+
+fn is_more(step: ReqStep, due: bool) -> bool {
+    match step {
+        ReqStep::More { continue_due } => continue_due == due,
+        ReqStep::Whole(_) => false,
+        ReqStep::Bad { .. } => false,
+    }
+}
+
+fn is_waiting(reader: &mut ReqReader, due: bool) -> bool {
+    match reader.step() {
+        Ok(step) => is_more(step, due),
+        Err(_) => false,
+    }
+}
+
+fn is_unended(
+    alloc: Global,
+    first: usize,
+    size: usize,
+    text: &[u8],
+    due: bool,
+    body: Option<&[u8]>,
+) -> bool {
+    let mut reader = ReqReader::new(alloc, &LIMITS);
+    let fed = is_fed(&mut reader, text, first, size);
+    fed && is_early(&mut reader, body) && is_waiting(&mut reader, due)
+}
+
+fn is_unended_however_cut(alloc: Global, text: &[u8], due: bool, body: Option<&[u8]>) -> bool {
+    for first in 0..text.len() + 1 {
+        if !is_unended(alloc, first, text.len(), text, due, body) {
+            return false;
+        }
+    }
+    is_unended(alloc, 0, 1, text, due, body)
+}
+
+#[test]
+fn what_is_waited_for_and_served_early(rt: HostRuntime) {
+    for (text, due, body) in UNENDED.iter() {
+        let right = is_unended_however_cut(rt.alloc(), text, *due, *body);
+        assert!(&rt; right, "{}", text.len());
+    }
+}
+
+const STREAMED: &[u8] =
+    b"POST / HTTP/1.0\r\nContent-Length: 26\r\n\r\nabcdefghijklmnopqrstuvwxyzGET";
+
+// Adds what has come of the body.
+fn takes(reader: &mut ReqReader, body: &mut Bytes) -> bool {
+    match reader.early() {
+        Ok(request) => {
+            request.is_none()
+                || body
+                    .extend_from_slice(reader.take_body().as_slice())
+                    .is_ok()
+        }
+        Err(_) => false,
+    }
+}
+
+// Adds what the request has at its end.
+fn ends(reader: &mut ReqReader, body: &mut Bytes) -> bool {
+    match next_whole(reader) {
+        Some(request) => body.extend_from_slice(request.body.as_slice()).is_ok(),
+        None => false,
+    }
+}
+
+// Whether the parts that `take_body` hands out of pieces of so many bytes, behind each second piece, and the rest are the
+// body.
+fn is_streamed(alloc: Global, size: usize) -> bool {
+    let mut reader = ReqReader::new(alloc, &LIMITS);
+    let mut body = Bytes::new(alloc);
+    let mut now = false;
+    for piece in STREAMED.chunks(size.max(1)) {
+        if reader.feed(piece).is_err() || now && !takes(&mut reader, &mut body) {
+            return false;
+        }
+        now = !now;
+    }
+    ends(&mut reader, &mut body)
+        && body.as_slice() == b"abcdefghijklmnopqrstuvwxyz".as_slice()
+        && reader.rest() == b"GET".as_slice()
+}
+
+#[test]
+fn each_byte_of_a_body_is_handed_out_once(rt: HostRuntime) {
+    for size in 1..STREAMED.len() + 1 {
+        assert!(&rt; is_streamed(rt.alloc(), size), "{size}");
+    }
+}

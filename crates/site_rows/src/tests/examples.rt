@@ -1,0 +1,139 @@
+// The examples of the format, and how they are written.
+use super::lines::{line_of, outcome, words_of};
+use site_file::{one_script, read_site, write_site};
+use std::test::Fail;
+
+const EXAMPLE: &str = "version = 1
+name = \"localhost\"
+listen = \"127.0.0.1\"
+port = 8080
+root = \"/srv/www\"
+
+[limits]
+run_ticks = 600
+
+[[script]]
+path = \"/cgi-bin/hello\"
+program = \"/srv/cgi/hello\"
+
+[[script]]
+path = \"/ws\"
+program = \"/srv/cgi/lines\"
+kind = \"websocket\"
+origins = [\"http://example.com\"]
+";
+
+const SECOND: &str = "version = 2
+
+[[host]]
+name = \"a.example\"
+aliases = [\"www.a.example\"]
+
+[[host.script]]
+path = \"/s\"
+program = \"/srv/cgi/s\"
+
+[[host.documents]]
+path = \"/d\"
+root = \"/srv/d\"
+
+[host.documents.types]
+txt = \"text/plain\"
+html = \"text/html\"
+
+[[host]]
+name = \"b.example\"
+any = true
+root = \"/srv/b\"
+
+[[host.documents]]
+path = \"/t\"
+";
+
+// The keys that stand in the examples, and the defaults of all others.
+#[test]
+fn examples_are_read(rt: HostRuntime) -> Result<(), Fail> {
+    let alloc = rt.alloc();
+    let want =
+        "127.0.0.1:8080; localhost* /srv/www /cgi-bin/hello=/srv/cgi/hello /ws=websocket:/srv/cgi/lines<http://example.com";
+    assert_eq!(rt; outcome(alloc, EXAMPLE.as_bytes())?.as_str(), want);
+    let site = read_site(alloc, EXAMPLE.as_bytes()).ok().ok_or("refused")?;
+    assert_eq!(rt; site.limits.run_ticks, 600);
+    assert_eq!(rt; site.limits.head, 16_384);
+    let want =
+        "127.0.0.1:8080; a.example,www.a.example /srv/www /s=/srv/cgi/s /d=documents:0; b.example* /srv/b /t=documents:1; docs /srv/d html=text/html txt=text/plain; docs /srv/www";
+    assert_eq!(rt; outcome(alloc, SECOND.as_bytes())?.as_str(), want);
+    let one = match one_script(alloc, "/s", "/bin/cat") {
+        Ok(site) => line_of(alloc, &site)?,
+        Err(fault) => words_of(alloc, &fault)?,
+    };
+    assert_eq!(rt;
+        one.as_str(),
+        "127.0.0.1:8080; localhost* /srv/www /s=/bin/cat"
+    );
+    for (path, program, want) in [
+        ("s", "cat", "out of range script[0].path"),
+        ("/s", "/bin/", "out of range script[0].program"),
+    ] {
+        let fault = one_script(alloc, path, program).err().ok_or("taken")?;
+        assert_eq!(rt; words_of(alloc, &fault)?.as_str(), want);
+    }
+    Ok(())
+}
+
+const WRITTEN: &str = "listen = \"127.0.0.1\"
+port = 8080
+version = 2
+
+[[host]]
+aliases = []
+any = true
+name = \"localhost\"
+root = \"/srv/www\"
+
+[[host.script]]
+kind = \"cgi\"
+path = \"/cgi-bin/hello\"
+program = \"/srv/cgi/hello\"
+
+[[host.script]]
+kind = \"websocket\"
+origins = [\"http://example.com\"]
+path = \"/ws\"
+program = \"/srv/cgi/lines\"
+
+[limits]
+body = 1048576
+children = 64
+connections = 256
+head = 16384
+idle_ticks = 150
+linger_ticks = 20
+output = 16777216
+redirects = 10
+run_ticks = 600
+target = 8000
+ws_text = 65536
+";
+
+// How a site is spelled, and that it reads back, documents too.
+#[test]
+fn sites_are_written(rt: HostRuntime) -> Result<(), Fail> {
+    let alloc = rt.alloc();
+    for (text, want) in [(EXAMPLE, WRITTEN), (SECOND, "")] {
+        match read_site(alloc, text.as_bytes()) {
+            Ok(site) => {
+                let written = write_site(alloc, &site)?;
+                if !want.is_empty() {
+                    assert_eq!(rt; written.as_str(), want);
+                }
+                assert_eq!(rt;
+                    outcome(alloc, written.as_bytes())?.as_str(),
+                    line_of(alloc, &site)?.as_str()
+                );
+            }
+            Err(fault) => assert_eq!(rt; words_of(alloc, &fault)?.as_str(), ""),
+        }
+    }
+    Ok(())
+}
