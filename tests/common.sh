@@ -1,7 +1,7 @@
 # What the scripts have in common that drive the built program. Each names this file before it does anything else. They
 # want the program that `rt ci` leaves, or the one that CGIHOST names, and work in a temporary folder.
 set -u
-export LC_ALL=C
+export LC_ALL=C PYTHONDONTWRITEBYTECODE=1
 root=$(cd "$(dirname "${BASH_SOURCE[0]}")/.." && pwd)
 program=${CGIHOST:-$root/crates/cgihost/out/cgihost}
 folder=$(mktemp -d)

@@ -196,7 +196,7 @@ server_name localhost
 # ---- at most 64 arguments, or none
 arguments() {
     run "$small"
-    if [ "$status" = 0 ] && [ "$(grep -c '^arg ' out)" = "$1" ]; then
+    if [ "$status" = 0 ] && [ "$(head -n 1 out)" = 'program /srv/cgi/hello' ] && [ "$(grep -c '^arg ' out)" = "$1" ]; then
         ok
     else
         bad "$1 arguments: status $status, wrote $(head -c 400 out)"
@@ -214,20 +214,28 @@ done
 request 'POST /cgi-bin/hello?a+b HTTP/1.1' 'Host: a' 'Content-Length: 0' >in
 arguments 0
 
-# ---- the kind of a script isn't looked at, and documents are scripts
-request 'GET /ws HTTP/1.1' 'Host: a' >in
-run "$root/examples/websocket.toml"
-if [ "$status" = 0 ] && [ "$(head -2 out)" = $'program /bin/cat\ndir /bin' ]; then
+# ---- the kind of a script isn't looked at, hosts are told apart, and documents are scripts
+request 'GET /live/echo HTTP/1.1' 'Host: a' >in
+run "$root/examples/live.toml"
+if [ "$status" = 0 ] && [ "$(head -2 out)" = $'program /srv/cgi/echo\ndir /srv/cgi' ]; then
     ok
 else
     bad "a plain GET of a WebSocket's script: status $status, wrote $(head -c 200 out)"
 fi
 request 'GET /t HTTP/1.1' 'Host: B.example' >in
 run "$root/examples/hosts.toml"
-if [ "$status" = 0 ] && [ "$(head -1 out)" = 'program /srv/b/cgi/t' ]; then
+if [ "$status" = 0 ] && [ "$(head -1 out)" = 'program /srv/cgi/hello' ]; then
     ok
 else
     bad "a script of the second host: status $status, wrote $(head -c 200 out)"
+fi
+printf 'version = 2\n[[host]]\nname = "a"\n[[host.documents]]\npath = "/c"\n[[host.documents]]\npath = "/d"\n' >documents
+request 'GET /d/x.txt HTTP/1.1' 'Host: a' >in
+run documents
+if [ "$status" = 0 ] && [ "$(head -1 out)" = 'program documents:1' ]; then
+    ok
+else
+    bad "a folder of documents: status $status, wrote $(head -c 200 out)"
 fi
 
 # ---- requests that are refused: by the head, by the body that it announces, by the script of its target

@@ -1,7 +1,8 @@
 #!/usr/bin/env bash
-# Tries the manual pages of docs/: they format without a warning, each site file that one shows is taken by the
-# built program as the page says, and the page on the commands has those that there are, with what they answer. It
-# wants the program that `rt ci` leaves, and works in a temporary folder.
+# Tries the manual pages of docs/: they format without a warning, each site file that one shows is taken by the built
+# program as the page says, and the page on the commands has those that there are and the statuses, with the lines that
+# they are said by. What its examples write is compared in examples.sh. It wants the program that `rt ci` leaves, and
+# works in a temporary folder.
 . "$(dirname "$0")/common.sh"
 
 # The names are the same text.
@@ -29,19 +30,23 @@ same 'the first site' "$("$program" check 1 2>&1)" 'ok: 2 scripts'
 same 'the second site' "$("$program" check 2 2>&1)" 'ok: 3 scripts'
 same 'there are two sites' "$(ls ./*[0-9] | wc -l)" 2
 
-# The commands: the page has each that `--help` has, and its example and its first line for a status are the program's.
+# The commands and statuses: the page has each that `--help` has, and its line for words of no form is the program's.
 page=$root/docs/cgihost.1
-"$program" --help | awk '$1 == "cgihost" && $2 != "runs" { print $2 }' | sort >helped
-sed -n 's/^\.Cm //p; s/^\.Fl -/--/p' "$page" | sed -n '1,/^--version/p' | sort >paged
+"$program" --help >help
+awk '$1 == "cgihost" && $2 != "runs" { print $2 }' help | sort >helped
+sed -n 's/^\.It Cm \([a-z]*\) .*/\1/p; s/^\.It Fl -/--/p' "$page" | sort >paged
 same 'the commands' "$(cat paged)" "$(cat helped)"
-awk '/^\.Bd -literal/ { shown = 1; next } /^\.Ed/ { shown = 0 } shown' "$page" | sed 's/\\e/\\/g' >example
-cgihost() { "$program" "$@"; }
-# shellcheck disable=SC1091
-same 'the example' "$(. ./example | head -n 5)" 'program /bin/cat
-dir /bin
-arg b
-arg c
-env GATEWAY_INTERFACE=CGI/1.1'
+sed -n '/^\.Sh SYNOPSIS/,/^\.Sh DESCRIPTION/s/^\.Cm //p; /^\.Sh SYNOPSIS/,/^\.Sh DESCRIPTION/s/^\.Fl -/--/p' "$page" | sort >paged
+same 'the synopsis' "$(cat paged)" "$(cat helped)"
+sed -n '/^\.Sh EXIT STATUS/,/^\.Sh DIAGNOSTICS/s/^\.It \([0-9]\)$/\1/p' "$page" >paged
+awk '$1 ~ /^[0-9]$/ { print $1 }' help >helped
+same 'the statuses' "$(cat paged)" "$(cat helped)"
 same 'words of no form' "$("$program" no 2>&1)" "$(sed -n 's/^\.It Li "\(cgihost: usage.*\)"$/\1/p' "$page")"
+
+# The limits of the page on site files are those that an upgraded file has, with their defaults.
+"$program" upgrade /hello=/bin/cat | sed -n '/^\[limits\]/,/^$/s/ = / /p' | sort >written
+sed -n '/^\.Sh LIMITS/,/^\.Sh EXAMPLES/p' "$root/docs/cgihost.toml.5" |
+    awk '$1 == ".It" { key = $3 } /, default [0-9]*\.$/ { sub(/\./, "", $NF); print key, $NF }' | sort >paged
+same 'the limits' "$(cat paged)" "$(cat written)"
 
 count

@@ -42,7 +42,7 @@ refused() {
 }
 
 # ---- the examples, as they stand and once they are written in version 2
-for example in small:2 hosts:3 websocket:2; do
+for example in small:2 site:6 live:3 hosts:3; do
     name=${example%:*}
     count=${example#*:}
     reports "ok: $count scripts" check "$root/examples/$name.toml"
@@ -63,6 +63,8 @@ for example in small:2 hosts:3 websocket:2; do
     fi
 done
 reports 'ok: 1 scripts' check /hello=/bin/cat
+printf 'version = 2\n[[host]]\nname = "a"\n[[host.documents]]\npath = "/d"\n[host.documents.types]\ntxt = "text/plain"\n' >documents
+reports 'ok: 1 scripts' check documents
 
 # ---- each fault
 script='\n[[script]]\npath = "/s"\nprogram = "/bin/cat"\n'

@@ -1,0 +1,224 @@
+#!/usr/bin/env bash
+# Prints how fast the built server is, side by side in one run with lighttpd and its mod_cgi where that is installed, and
+# with a bare loop of spawn, read to the end and wait, which has no network and as many threads as there are clients:
+# small static programs a second for 1, 8 and 64 clients, on a new connection each and on kept ones; MB/s of replies of
+# 8 MiB, and of 1 MiB sent and echoed; and how late the lines of a program are at the client once its reply has begun.
+#
+# The aims: 1.4 times lighttpd with one loop and 1.8 with four; 0.75 of the bare loop for 8 clients on kept connections
+# with four; 0.5 of the bare copy for uploads; 2 ms for a line. A number of a busy machine says little. Each is measured
+# for SECONDS seconds (3), one after the other, in ROUNDS rounds (3), of which the median counts.
+. "$(dirname "$0")/../common.sh"
+. "$root/tests/server.sh"
+for tool in wrk cc; do
+    command -v "$tool" >/dev/null || {
+        echo "serve.sh: skipped, there is no $tool"
+        exit 0
+    }
+done
+seconds=${SECONDS_EACH:-3}
+rounds=${ROUNDS:-3}
+lighttpd=$(command -v lighttpd || ls /usr/sbin/lighttpd 2>/dev/null)
+
+# ---- the programs: a small one, one that writes 8 MiB, and one that gives its input back
+cat >small.c <<'END'
+#include <unistd.h>
+int main(void) { return write(1, "Content-Type: text/plain\n\nhi\n", 29) != 29; }
+END
+cat >large.c <<'END'
+#include <unistd.h>
+static char bytes[65536];
+int main(void) {
+    write(1, "Content-Type: application/octet-stream\n\n", 40);
+    for (int at = 0; at < 128; at++)
+        for (long sent = 0, count; sent < 65536; sent += count)
+            if ((count = write(1, bytes + sent, 65536 - sent)) <= 0) return 1;
+    return 0;
+}
+END
+cat >echo.c <<'END'
+#include <unistd.h>
+static char bytes[65536];
+int main(void) {
+    write(1, "Content-Type: application/octet-stream\n\n", 40);
+    for (long count; (count = read(0, bytes, 65536)) > 0;)
+        for (long sent = 0, more; sent < count; sent += more)
+            if ((more = write(1, bytes + sent, count - sent)) <= 0) return 1;
+    return 0;
+}
+END
+
+# The bare loop: THREADS threads spawn PROGRAM for SECONDS seconds, feed it BYTES bytes, read its output to the end and wait
+# for it. It prints how many ran a second.
+cat >bare.c <<'END'
+#define _GNU_SOURCE
+#include <fcntl.h>
+#include <poll.h>
+#include <pthread.h>
+#include <spawn.h>
+#include <stdio.h>
+#include <stdlib.h>
+#include <sys/wait.h>
+#include <time.h>
+#include <unistd.h>
+static char *program, fed[65536];
+static long bytes, total;
+static double end;
+static double now(void) {
+    struct timespec it;
+    clock_gettime(CLOCK_MONOTONIC, &it);
+    return it.tv_sec + it.tv_nsec / 1e9;
+}
+static void once(char *got) {
+    int in[2], out[2], status;
+    pid_t pid;
+    char *words[] = {program, NULL}, *none[] = {NULL};
+    posix_spawn_file_actions_t acts;
+    if (pipe2(in, O_CLOEXEC) || pipe2(out, O_CLOEXEC)) exit(1);
+    posix_spawn_file_actions_init(&acts);
+    posix_spawn_file_actions_adddup2(&acts, in[0], 0);
+    posix_spawn_file_actions_adddup2(&acts, out[1], 1);
+    if (posix_spawn(&pid, program, &acts, NULL, words, none)) exit(1);
+    posix_spawn_file_actions_destroy(&acts);
+    close(in[0]), close(out[1]);
+    long left = bytes;
+    fcntl(in[1], F_SETFL, O_NONBLOCK);
+    if (!left) close(in[1]);
+    for (;;) {
+        struct pollfd both[2] = {{out[0], POLLIN, 0}, {left ? in[1] : -1, POLLOUT, 0}};
+        if (left) poll(both, 2, -1);
+        if (left && both[1].revents) {
+            long count = write(in[1], fed, left < 65536 ? left : 65536);
+            if (count > 0 && !(left -= count)) close(in[1]);
+        }
+        if (!left || both[0].revents)
+            if (read(out[0], got, 65536) <= 0) break;
+    }
+    close(out[0]);
+    waitpid(pid, &status, 0);
+}
+static void *many(void *none) {
+    char *got = malloc(65536);
+    long count = 0;
+    while (now() < end) once(got), count++;
+    __atomic_fetch_add(&total, count, __ATOMIC_SEQ_CST);
+    return none;
+}
+int main(int count, char **words) {
+    int threads = atoi(words[1]);
+    double seconds = atof(words[2]);
+    pthread_t all[64];
+    (void)count;
+    program = words[3], bytes = atol(words[4]), end = now() + seconds;
+    for (int at = 0; at < threads; at++) pthread_create(&all[at], NULL, many, NULL);
+    for (int at = 0; at < threads; at++) pthread_join(all[at], NULL);
+    printf("%.1f\n", total / seconds);
+}
+END
+mkdir cgi
+for name in small large echo; do
+    cc -O2 -static -w -o "cgi/$name" "$name.c" 2>/dev/null || cc -O2 -w -o "cgi/$name" "$name.c"
+done
+cc -O2 -w -pthread -o bare bare.c
+cat >clock <<'END'
+#!/usr/bin/env python3
+import sys, time
+sys.stdout.write("Content-Type: text/plain\n\nbegun\n")
+sys.stdout.flush()
+time.sleep(0.4)
+for _ in range(100):
+    sys.stdout.write(f"{time.time():.6f}\n")
+    sys.stdout.flush()
+    time.sleep(0.01)
+END
+chmod +x clock
+printf 'wrk.method = "POST"\nwrk.body = string.rep("x", 1048576)\n' >post.lua
+
+# With FIRST all that is measured goes before other work from here on, where the system allows that.
+[ -z "${FIRST:-}" ] || chrt -f -p 10 $$ >/dev/null 2>&1 || true
+
+# ---- the servers
+{
+    port=$(free_port)
+    printf 'version = 1\nport = %s\n\n[limits]\nconnections = 1024\nchildren = 256\n' "$port"
+    for name in small large echo; do
+        printf '\n[[script]]\npath = "/%s"\nprogram = "%s/cgi/%s"\n' "$name" "$folder" "$name"
+    done
+    printf '\n[[script]]\npath = "/clock"\nprogram = "%s/clock"\n' "$folder"
+} >site
+light=$(free_port)
+other=
+{
+    printf 'server.document-root = "%s/cgi"\nserver.bind = "127.0.0.1"\nserver.port = %s\n' "$folder" "$light"
+    printf 'server.modules = ("mod_cgi")\ncgi.assign = ("" => "")\nserver.max-keep-alive-requests = 1000000\n'
+    printf 'server.upload-dirs = ("%s")\nserver.errorlog = "%s/light.log"\n' "$folder" "$folder"
+} >light.conf
+if [ -n "$lighttpd" ]; then
+    "$lighttpd" -D -f light.conf >light.said 2>&1 &
+    other=$!
+    trap 'end_server; kill "$other"; rm -rf "$folder"' EXIT
+else
+    echo 'serve.sh: there is no lighttpd'
+fi
+
+# Requests a second by so many clients, for a path of the server at a port.
+asked() {
+    local at=$1 clients=$2 path=$3
+    shift 3
+    wrk -t 1 -c "$clients" -d "${seconds}s" --timeout 20s "$@" "http://127.0.0.1:$at/$path" >wrked 2>&1
+    if grep -q 'Non-2xx\|Socket errors' wrked; then
+        echo "serve.sh: $at /$path, $clients clients: $(grep 'Non-2xx\|Socket' wrked | tr -s ' ')" >&2
+    fi
+    awk '/^Requests\/sec/ { print $2 }' wrked
+}
+
+median() {
+    sort -n | awk '{ all[NR] = $1 } END { print all[int((NR + 1) / 2)] }'
+}
+
+# A row: what each of the three does in a round after the other, and the ratios of the medians.
+row() {
+    local name=$1 clients=$2 path=$3 bytes=$4 scale=$5 unit=$6 _
+    shift 6
+    rm -f ours theirs bare.times
+    for _ in $(seq "$rounds"); do
+        asked "$port" "$clients" "$path" "$@" >>ours
+        [ -z "$other" ] || asked "$light" "$clients" "$path" "$@" >>theirs
+        ./bare "$clients" "$seconds" "$folder/cgi/$path" "$bytes" >>bare.times
+    done
+    [ -n "$other" ] || echo 0 >theirs
+    awk -v name="$name" -v ours="$(median <ours)" -v theirs="$(median <theirs)" -v bare="$(median <bare.times)" \
+        -v scale="$scale" -v unit="$unit" 'BEGIN {
+        printf "%-44s %8.0f %s, lighttpd %8.0f (%5.2f), bare %8.0f (%5.2f)\n", name, ours * scale, unit,
+            theirs * scale, theirs ? ours / theirs : 0, bare * scale, bare ? ours / bare : 0
+    }'
+}
+
+# All rows, of a server with so many loops.
+measured() {
+    local loops=$1 clients
+    shift
+    start "$@"
+    [ "$failed" = 0 ] || return
+    for clients in 1 8 64; do
+        row "$loops, $clients clients, new connections" "$clients" small 0 1 '/s' -H 'Connection: close'
+        row "$loops, $clients clients, kept connections" "$clients" small 0 1 '/s'
+    done
+    for clients in 1 8; do
+        row "$loops, $clients clients, replies of 8 MiB" "$clients" large 0 8.388608 'MB/s'
+        row "$loops, $clients clients, 1 MiB echoed" "$clients" echo 1048576 1.048576 'MB/s' -s post.lua
+    done
+    python3 -c 'import sys
+sys.path.insert(0, sys.argv[2])
+from client import *
+print("lines of a begun reply: half within %.2f ms, nine of ten within %.2f ms (aim: 2)" % lateness(int(sys.argv[1])))' \
+        "$port" "$root/tests"
+    end_server
+}
+
+echo "load before: $(cut -d' ' -f1-3 /proc/loadavg), $(nproc) processors"
+measured 'one loop'
+if "$program" serve site --loops 4 --turns 1 </dev/null >tried 2>&1 || [ $? = 6 ]; then
+    measured 'four loops' --loops 4
+fi
+echo "load behind: $(cut -d' ' -f1-3 /proc/loadavg)"
+[ "$failed" = 0 ]
