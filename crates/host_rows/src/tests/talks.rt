@@ -5,7 +5,7 @@ use super::drive::Heard::{
     StartFailed, StartFull, Started, Stop, Ticks, Took, Wrote, WsBad, WsBinary, WsClosed, WsFill,
     WsText,
 };
-use super::play::{Beat, NO_ROOM, Play, Row, has_rows, plays};
+use super::play::{Beat, NO_ROOM, Play, Row, plays};
 use super::texts::{OUTPUT, SETTLED, START, WRITE_OPEN};
 use host_base::NoMemory;
 use std::test::Fail;
@@ -702,16 +702,6 @@ const REFUSALS: [Row; 6] = [
         ],
     },
 ];
-
-const ROWS: [&[Row]; 4] = [&HANDSHAKES, &TALKS, &LINES, &REFUSALS];
-
-#[test]
-fn handshakes_and_talks(rt: HostRuntime) -> Result<(), Fail> {
-    for rows in ROWS {
-        has_rows(&rt, rt.alloc(), "once", "site", rows)?;
-    }
-    has_rows(&rt, rt.alloc(), "once", "short", &SHORT)
-}
 
 // A handshake in single bytes, and more output than a script may print that speaks no WebSocket.
 fn talk_long(play: &mut Play) -> Result<(), NoMemory> {
