@@ -1,2 +1,6 @@
-// What the shared types give.
+// What the shared types and the small parts give.
+mod children;
+mod clocks;
+mod lines;
+mod shown;
 mod types;

@@ -5,8 +5,6 @@ mod mark;
 mod places;
 mod row;
 mod table;
-#[cfg(test)]
-mod tests;
 
 pub use mark::{Mark, TableFull};
 pub use table::Table;

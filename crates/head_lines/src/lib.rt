@@ -9,6 +9,3 @@ mod search;
 pub use laws::{fronts_are_lines, fronts_stand_alone, fronts_stay};
 pub use lines::{first_line, line_count, strip_cr};
 pub use search::Search;
-
-#[cfg(test)]
-mod tests;

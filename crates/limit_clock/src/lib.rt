@@ -3,8 +3,6 @@
 
 mod deadline;
 mod laws;
-#[cfg(test)]
-mod tests;
 
 pub use deadline::Deadline;
 pub use laws::{deadlines_are_met_once, deadlines_stay_over};

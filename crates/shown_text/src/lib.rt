@@ -4,6 +4,3 @@
 mod shown;
 
 pub use shown::Shown;
-
-#[cfg(test)]
-mod tests;

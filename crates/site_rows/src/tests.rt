@@ -3,4 +3,5 @@ mod counts;
 mod examples;
 mod kinds;
 mod lines;
+mod orders;
 mod rows;

@@ -1,5 +1,5 @@
 // What texts are shown as.
-use crate::Shown;
+use shown_text::Shown;
 use std::test::Fail;
 
 #[test]

@@ -1,4 +1,5 @@
-use super::*;
+// Deadlines, tick by tick.
+use limit_clock::Deadline;
 
 // The numbers of the ticks, of the first `count`, that meet a limit.
 fn met_at(limit: u32, count: u32) -> u32 {

@@ -1,7 +1,7 @@
 use Rattle.std.proofs.Common.{List, ℕ, take, drop, sym, subst}
 use Rattle.std.proofs.Math.Seq.{take-add}
 use Rattle.head_lines.specs.Lines.{IsSearched}
-use Rattle.head_lines.proofs.tests.is_found_by_bytes.Goals as goal
+use Rattle.base_rows.proofs.tests.lines.is_found_by_bytes.Goals as goal
 
 pub loop-count-preserved : goal.loop-count-preserved
 loop-count-preserved c =

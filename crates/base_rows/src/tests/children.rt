@@ -1,4 +1,5 @@
-use super::*;
+// Children of a table, call by call.
+use child_table::{Mark, Table, TableFull};
 use std::test::Fail;
 
 // One call: 0 starts child k for connection k + 100, 1 to 5 mark it, 6 lets go of it.

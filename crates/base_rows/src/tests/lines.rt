@@ -1,5 +1,5 @@
 // Where the front of a text ends, whole and byte by byte.
-use crate::{Search, first_line, line_count, strip_cr};
+use head_lines::{Search, first_line, line_count, strip_cr};
 
 // Texts, and where their first empty line ends.
 const TEXTS: [(&[u8], Option<usize>); 12] = [
