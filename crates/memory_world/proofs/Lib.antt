@@ -1,2 +1,6 @@
 mod SumLaws
 mod NextLaws
+mod ClientTallyLaws
+mod ChildTallyLaws
+mod LeastLaws
+mod TieLaws

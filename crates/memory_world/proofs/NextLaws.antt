@@ -91,7 +91,7 @@ started_numbers _ = tt
 both_true : (a b : Bool) → a ≡ true → b ≡ true → (a && b) ≡ true
 both_true a b is also = rw (is, also) refl
 
-start_fits : (T : List Item) → OfSome (λ k. is_start_open T k ≡ true) (least (open_starts T))
+pub start_fits : (T : List Item) → OfSome (λ k. is_start_open T k ≡ true) (least (open_starts T))
 start_fits T =
     fold_of (λ k. is_start_open T k ≡ true) None (open_starts T) tt
     (all_weaker (λ k. (start_stands T k ≡ true) × (not (start_answered T k) ≡ true)) (λ k. is_start_open T k ≡ true)
@@ -99,7 +99,7 @@ start_fits T =
     (filter_of (λ k. start_stands T k ≡ true) (λ k. not (start_answered T k)) (flat_map start_number T)
     (numbered is_start start_number start_numbers T)))
 
-exit_fits : (T : List Item) → OfSome (λ k. (started T k && not (exited T k)) ≡ true) (least (running T))
+pub exit_fits : (T : List Item) → OfSome (λ k. (started T k && not (exited T k)) ≡ true) (least (running T))
 exit_fits T =
     fold_of (λ k. (started T k && not (exited T k)) ≡ true) None (running T) tt
     (all_weaker (λ k. (started T k ≡ true) × (not (exited T k) ≡ true)) (λ k. (started T k && not (exited T k)) ≡ true)

@@ -5,3 +5,6 @@ pub mod StoreWords
 pub mod SinkWords
 pub mod WorldWords
 pub mod Sums
+pub mod ClientTallies
+pub mod ChildTallies
+pub mod Ties

@@ -12,11 +12,11 @@ listed_of o = map given_of o.events.items
 
 -- its items so far
 abbrev pub items_of : MemoryOutside → List Item
-items_of o = o.telling.items.items
+items_of o = o.telling.trace.items.items
 
 -- its trace, where it tells it; in the wild it never does
 abbrev pub trace_of : MemoryOutside → Option (List Item)
-trace_of o = if o.telling.tells && not o.wild then Some o.telling.items.items else None
+trace_of o = if o.telling.tells && not o.wild then Some o.telling.trace.items.items else None
 
 -- the next act is answered NoRoom, where it may be
 abbrev pub refuses_now : MemoryOutside → Bool

@@ -1,5 +1,5 @@
 // Whether an event may come next after a trace.
-ghost use Rattle.std.specs.Prelude.{◌≡◌, ◌+◌, ◌-◌, ◌^◌, ◌≤◌, ◌<◌, min, length, count_by, nat_le, position};
+ghost use Rattle.std.specs.Prelude.{◌≡◌, ◌+◌, ◌-◌, ◌^◌, ◌≤◌, ◌<◌, min, length, count_by, nat_le, position, if◌then◌else◌};
 ghost use Rattle.std.specs.List.{list_any};
 ghost use Rattle.host_trace.specs.Kinds.{is_accepted, is_stop, is_client_answer, is_want_client, is_shut, is_upgrade, is_start, is_started, is_start_answer, is_child_answer, is_want_child, is_output_end, is_input_end, is_exited};
 ghost use Rattle.host_trace.specs.First.{since};
@@ -10,10 +10,25 @@ use super::sums::{fed_len, said_len, took_sum, written_len, wrote_sum};
 use host_base::Bytes;
 use host_trace::{Act, Event, Item};
 
-fn is_accepted(item: &Item) -> bool
+/// Whether a client connected.
+pub fn is_accepted(item: &Item) -> bool
     ensures { result ≡ is_accepted item.now }
 {
     matches!(item, Item::In(Event::Accepted { .. }))
+}
+
+/// Whether the server is to end.
+pub fn is_stop(item: &Item) -> bool
+    ensures { result ≡ is_stop item.now }
+{
+    matches!(item, Item::In(Event::Stop))
+}
+
+/// One where it is true.
+pub fn one_if(test: bool) -> u64
+    ensures { result ≡ (if test then 1 else 0) }
+{
+    if test { 1 } else { 0 }
 }
 
 fn count_accepted(items: &[Item]) -> usize
@@ -212,7 +227,8 @@ fn is_output_asked(items: &[Item], k: u64) -> bool
     started(items, k) && !output_ended(items, k) && child_wanted(items, k)
 }
 
-fn is_piece(bytes: &Bytes) -> bool
+/// Whether it is a piece that an event may carry.
+pub fn is_piece(bytes: &Bytes) -> bool
     ensures { result ≡ is_piece bytes.now }
 {
     !bytes.is_empty() && bytes.len() <= 65_536

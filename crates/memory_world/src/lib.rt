@@ -1,6 +1,11 @@
 //! The outside in memory: lists of what comes and of what fails, in place of sockets, pipes and files.
 #![tactic(auto)]
 
+mod child_tallies;
+mod child_tally;
+mod client_tallies;
+mod client_tally;
+mod counted;
 mod events;
 mod find;
 mod fit;
@@ -9,6 +14,7 @@ mod outside;
 mod sink;
 mod store;
 mod sums;
+mod tallies;
 mod telling;
 mod world;
 

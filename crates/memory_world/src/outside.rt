@@ -3,8 +3,6 @@ ghost use Rattle.std.specs.Prelude.{◌≡◌, ◌≤◌, IfOk, map};
 ghost use Rattle.memory_world.specs.ListedWords.{given_of};
 
 use super::events::Listed;
-use super::fit::{fits, stopped};
-use super::open::{open_start, running_child};
 use super::telling::Telling;
 use host_base::NoMemory;
 use host_trace::{Act, Acted, Event, Events, Item, Items, Outside};
@@ -84,11 +82,7 @@ impl MemoryOutside {
         Ok(MemoryOutside {
             events: twice(alloc, events)?,
             refused,
-            telling: Telling {
-                items: Vec::new(alloc),
-                room: 0,
-                tells: false,
-            },
+            telling: Telling::silent(alloc)?,
             wild: true,
             limit,
             acts: 0,
@@ -101,7 +95,7 @@ impl MemoryOutside {
     pub fn items(&self) -> &[Item]
         ensures { result.now ≡ items_of self.now }
     {
-        self.telling.items.as_slice()
+        self.telling.trace.items.as_slice()
     }
 
     /// Whether it tells its trace, which is then `items`.
@@ -117,7 +111,7 @@ impl MemoryOutside {
         ensures { result ≡ is_new_for limit tells self.now }
     {
         let same = if self.tells() { tells } else { !tells };
-        self.telling.items.is_empty() && self.limit == limit && same
+        self.telling.trace.items.is_empty() && self.limit == limit && same
     }
 
     /// Its items, and whether they are its trace.
@@ -128,20 +122,20 @@ impl MemoryOutside {
         let MemoryOutside {
             events: _,
             refused: _,
-            telling: Telling { items, .. },
+            telling,
             wild: _,
             limit: _,
             acts: _,
             faults: _,
             full_books: _,
         } = self;
-        (Items::from_vec(items), tells)
+        (Items::from_vec(telling.into_items()), tells)
     }
 
     fn is_taken(&self, event: &Event) -> bool
         ensures { result ≡ is_taken self.now.wild self.now.limit (items_of self.now) event.now }
     {
-        self.wild || fits(self.telling.items.as_slice(), event, self.limit)
+        self.wild || self.telling.trace.fits(event, self.limit)
     }
 
     // The next event, from the list or after it.
@@ -161,12 +155,12 @@ impl MemoryOutside {
     fn after_list(&self) -> Listed
         ensures { result.given ≡ after_list (items_of self.now) }
     {
-        let items = self.telling.items.as_slice();
-        let event = if !stopped(items) {
+        let trace = &self.telling.trace;
+        let event = if !trace.is_stopped() {
             (Event::Stop, Event::Stop)
-        } else if let Some(k) = open_start(items) {
+        } else if let Some(k) = trace.open_start() {
             (Event::Started { k }, Event::Started { k })
-        } else if let Some(k) = running_child(items) {
+        } else if let Some(k) = trace.running_child() {
             (Event::Exited { k }, Event::Exited { k })
         } else {
             (Event::Tick { secs: 0 }, Event::Tick { secs: 0 })

@@ -7,7 +7,8 @@ ghost use Rattle.host_trace.specs.Projections.{client_out, child_in, wrote_sum, 
 use host_base::Text;
 use host_trace::{Act, Event, Item};
 
-fn wrote_by(item: &Item, c: u64) -> u64
+/// How many bytes left for the client.
+pub fn wrote_by(item: &Item, c: u64) -> u64
     ensures { result ≡ count_wrote c item.now }
 {
     match item {
@@ -16,7 +17,8 @@ fn wrote_by(item: &Item, c: u64) -> u64
     }
 }
 
-fn took_by(item: &Item, k: u64) -> u64
+/// How many bytes the child's input pipe took.
+pub fn took_by(item: &Item, k: u64) -> u64
     ensures { result ≡ count_took k item.now }
 {
     match item {
@@ -25,7 +27,8 @@ fn took_by(item: &Item, k: u64) -> u64
     }
 }
 
-fn written_by(item: &Item, c: u64) -> usize
+/// How many bytes were written for the client.
+pub fn written_by(item: &Item, c: u64) -> usize
     ensures { result ≡ length (bytes_written c item.now) }
 {
     match item {
@@ -34,7 +37,8 @@ fn written_by(item: &Item, c: u64) -> usize
     }
 }
 
-fn fed_by(item: &Item, k: u64) -> usize
+/// How many bytes were fed to the child.
+pub fn fed_by(item: &Item, k: u64) -> usize
     ensures { result ≡ length (input_fed k item.now) }
 {
     match item {
@@ -87,7 +91,8 @@ fn feed_sum(items: &[Item], k: u64) -> u128
     sum
 }
 
-fn texts_by(item: &Item, c: u64) -> &[Text]
+/// The texts said to the client.
+pub fn texts_by(item: &Item, c: u64) -> &[Text]
     ensures { result.now ≡ texts_said c item.now }
 {
     match item {
@@ -96,7 +101,8 @@ fn texts_by(item: &Item, c: u64) -> &[Text]
     }
 }
 
-fn text_len(texts: &[Text]) -> u128
+/// How many bytes the texts have.
+pub fn text_len(texts: &[Text]) -> u128
     ensures { result ≡ sum_by length texts.now }
 {
     let mut sum = 0u128;

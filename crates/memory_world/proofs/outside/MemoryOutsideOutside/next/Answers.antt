@@ -13,5 +13,5 @@ returns-clause-told c =
     ap (λ o. o.telling) c.count.ensures ∙ ap (λ o. o.telling) c.pick-told.ensures.same in
     rw wild
     (hears_next s.limit s.wild s.telling.tells c.keep.new.self.tells (nat_lt (length (items_of s)) s.telling.room) (items_of s)
-    c.keep.new.self.items.items (listed_of s) c.pick-told.result.told c.pick-told.result.given c.pick-told.result.same
+    c.keep.new.self.trace.items.items (listed_of s) c.pick-told.result.told c.pick-told.result.given c.pick-told.result.same
     c.pick-told.ensures.event (rw telling at c.keep.ensures.tells) (rw telling at c.keep.ensures.kept))
