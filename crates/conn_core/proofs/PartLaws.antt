@@ -1,5 +1,5 @@
 -- What was done in a part of a step, by what its functions say.
-use Rattle.std.proofs.Common.{◌≡◌, ◌⊎◌, inl, inr, ℕ, suc, zero, Bool, true, false, not, ◌||◌, ◌&&◌, List, [], ◌∷◌, Option, Some, None, is_some, Result, Ok, Err, is_ok, IsErr, ◌==◌, refl, sym, ap, ◌∙◌, subst}
+use Rattle.std.proofs.Common.{◌≡◌, ◌⊎◌, inl, inr, ℕ, suc, zero, Bool, true, false, not, ◌||◌, ◌&&◌, List, [], ◌∷◌, Option, Some, None, is_some, Result, Ok, Err, is_ok, IsErr, ◌==◌, refl, sym, ap, ◌∙◌, ◌+◌, arith, subst}
 use Rattle.std.proofs.lemmas.Bool.{false≢true}
 use Rattle.host_base.specs.declared.launch.Launch.{Launch}
 use Rattle.host_trace.specs.declared.items.Item.{Item}
@@ -16,7 +16,7 @@ use Rattle.conn_marks.specs.View.{View as Marks, has_room}
 use Rattle.conn_marks.specs.Form.{given_all}
 use Rattle.exchange_request.specs.declared.incoming.Incoming.{Incoming}
 use Rattle.request_reader.specs.Request.{is_whole_head}
-use Rattle.exchange_request.specs.Knows.{Knows, is_looked_at, is_ready, limits_of}
+use Rattle.exchange_request.specs.Knows.{Knows, is_looked_at, is_ready, kept_of, limits_of}
 use Rattle.exchange_stage.specs.declared.stage.Leg.{Leg}
 use Rattle.exchange_stage.specs.declared.stage.Stage.{Stage}
 use Rattle.exchange_stage.specs.declared.stage.Stage.TheVariants as At
@@ -340,56 +340,51 @@ given_up_unfed (Some v) f =
 
 -- ---- rounds
 
-pub gave_no_rounds : {stamp : Option ℕ} (conn : Conn) {n : ℕ} {b : Option (List Item)} → Gave (SomeRounds false stamp) conn n b conn n b
-gave_no_rounds conn = gave_as (λ moves d. (zero, λ more. absurd (false≢true more), d)) (gave_nothing conn)
+pub gave_no_rounds : (stamp : Option ℕ) (conn : Conn) {n : ℕ} {b : Option (List Item)} → Gave (Rounds 0 stamp) conn n b conn n b
+gave_no_rounds stamp conn = gave_nothing conn
 
--- one round more is one at least
-pub gave_round : {stamp : Option ℕ} {old mid new : Conn} {n m l : ℕ} {a b d : Option (List Item)} (more : Bool) → Gave (SomeRounds false stamp) old n a mid m b → TellsMore mid true
-    → Gave (Then (Answers stamp) (Begins stamp)) mid m b new l d → Gave (SomeRounds more stamp) old n a new l d
-gave_round {stamp} {old} {mid} {new} {n} {m} {l} {a} {b} {d} more g on h = gave_as counted (gave_then g (gave_as round h))
+-- one round more
+pub gave_round : {stamp : Option ℕ} {old mid new : Conn} {n m l : ℕ} {a b d : Option (List Item)} (turns : ℕ) → Gave (Rounds turns stamp) old n a mid m b → TellsMore mid true
+    → Gave (Then (Answers stamp) (Begins stamp)) mid m b new l d → Gave (Rounds (suc turns) stamp) old n a new l d
+gave_round {stamp} {old} {mid} {new} {n} {m} {l} {a} {b} {d} turns g on h = gave_then g (gave_as round h)
   where
     round : (moves : List Move) → Then (Answers stamp) (Begins stamp) mid m moves new → Round stamp mid m moves new
     round moves t = record { more = on; does = t }
 
-    not_none : (turns : ℕ) → suc turns ≡ 0 → ⊥
-    not_none turns e = absurd (cc)
-
-    counted : (moves : List Move) → Then (SomeRounds false stamp) (Round stamp) old n moves new → SomeRounds more stamp old n moves new
-    counted moves t =
-        (suc t.first.0, λ is. not_none t.first.0, record { mid = t.mid; sooner = t.sooner; later = t.later; are = t.are; first = t.first.2; second = t.second })
-
 -- nothing may go on, or so many were made, and memory counts as wanting
-pub gave_rest : {stamp : Option ℕ} {old mid new : Conn} {n m : ℕ} {b d : Option (List Item)} (more : Bool) → more ≡ true → Gave (SomeRounds more stamp) old n b mid m d → Kept mid new
-    → (new ≡ mid) ⊎ (TellsMore mid true × GivesUp mid new) → TellsMore new false → Gave (RoundsOn stamp) old n b new m d
-gave_rest {stamp} {old} {mid} {new} {n} {m} {b} {d} more is g k or_lost rests = gave_as all (gave_then g (last or_lost))
+pub gave_rest : {stamp : Option ℕ} {old mid new : Conn} {n m : ℕ} {b d : Option (List Item)} (turns : ℕ) → turns ≡ kept_of old.request + 2 → Gave (Rounds turns stamp) old n b mid m d
+    → Kept mid new → (new ≡ mid) ⊎ (TellsMore mid true × GivesUp mid new) → TellsMore new false → Gave (RoundsOn stamp) old n b new m d
+gave_rest {stamp} {old} {mid} {new} {n} {m} {b} {d} turns is g k or_lost rests = gave_as all (gave_then g (last or_lost))
   where
     last : (new ≡ mid) ⊎ (TellsMore mid true × GivesUp mid new) → Gave (Or Nothing (Part LosesTurn)) mid m d new m d
     last (inl same) = gave_back same (the_one (record { none = refl; same = refl }))
     last (inr lost) =
         gave_as (λ moves p. the_other p) (gave_part (gave_turned (kept_turned k (λ i. record { more = lost.0; loses = record { none = refl; gives_up = lost.1 } }))))
 
-    all : (moves : List Move) → Then (SomeRounds more stamp) (Or Nothing (Part LosesTurn)) old n moves new → RoundsOn stamp old n moves new
+    all : (moves : List Move) → Then (Rounds turns stamp) (Or Nothing (Part LosesTurn)) old n moves new → RoundsOn stamp old n moves new
     all moves t = record {
-      turns = t.first.0;
-      does = record { mid = t.mid; sooner = t.sooner; later = t.later; are = t.are; first = t.first.2; second = t.second };
+      turns = turns;
+      does = t;
       rests = rests;
-      none = λ zeros. absurd (t.first.1 is zeros);
+      none = λ zeros. absurd (omega (arith, is, zeros));
+      enough = λ few. absurd (omega (arith, is, few));
     }
 
-pub gave_rested : {stamp : Option ℕ} {old new : Conn} {n m : ℕ} {b d : Option (List Item)} (more : Bool) → Gave (SomeRounds more stamp) old n b new m d → TellsMore new false
+pub gave_rested : {stamp : Option ℕ} {old new : Conn} {n m : ℕ} {b d : Option (List Item)} → Gave (SomeRounds stamp) old n b new m d → TellsMore new false
     → Gave (RoundsOn stamp) old n b new m d
-gave_rested {stamp} {old} {new} {n} {m} {b} {d} more g rests = gave_as all (gave_then g (gave_nothing new))
+gave_rested {stamp} {old} {new} {n} {m} {b} {d} g rests = gave_as all (gave_then g (gave_nothing new))
   where
     none_of : (turns : ℕ) (moves : List Move) (mid : Conn) → Rounds turns stamp old n moves mid → turns ≡ 0 → mid ≡ old
     none_of zero moves mid r e = r.same
     none_of (suc turns) moves mid r e = absurd (cc)
 
-    all : (moves : List Move) → Then (SomeRounds more stamp) Nothing old n moves new → RoundsOn stamp old n moves new
+    all : (moves : List Move) → Then (SomeRounds stamp) Nothing old n moves new → RoundsOn stamp old n moves new
     all moves t = record {
       turns = t.first.0;
-      does = record { mid = t.mid; sooner = t.sooner; later = t.later; are = t.are; first = t.first.2; second = the_one t.second };
+      does = record { mid = t.mid; sooner = t.sooner; later = t.later; are = t.are; first = t.first.1; second = the_one t.second };
       rests = rests;
-      none = λ zeros. t.second.same ∙ none_of t.first.0 t.sooner t.mid t.first.2 zeros;
+      none = λ zeros. t.second.same ∙ none_of t.first.0 t.sooner t.mid t.first.1 zeros;
+      enough = λ few. t.second.same;
     }
 
 -- ---- memory is wanting

@@ -13,7 +13,7 @@ use Rattle.conn_state.specs.declared.begin.Welcome.{Welcome}
 use Rattle.conn_core.specs.declared.serve.Turns.{Turns}
 use Rattle.conn_state.specs.Kept.{Gave}
 use Rattle.conn_state.specs.Deeds.{Deed, Part, Then, gives_all, the_other}
-use Rattle.conn_core.specs.Parts.{Answers, LosesHop, SomeRounds}
+use Rattle.conn_core.specs.Parts.{Answers, LosesHop, Rounds}
 use Rattle.conn_state.specs.Ready.{waits_at}
 use Rattle.conn_state.specs.Tells.{TellsMore, TellsTurn}
 use Rattle.conn_state.specs.Begins.{ReadiesWelcome}
@@ -66,15 +66,15 @@ module _ (old : Conn) (n : ℕ) (welcome : Welcome) (r : ReadiesWelcome welcome 
 
 -- ---- rounds
 
-pub gave_greeted : {stamp : Option ℕ} {old mid new : Conn} {n m l : ℕ} {a b d : Option (List Item)} (launch : Launch) → Gave (SomeRounds false stamp) old n a mid m b
+pub gave_greeted : {stamp : Option ℕ} {old mid new : Conn} {n m l : ℕ} {a b d : Option (List Item)} (launch : Launch) (turns : ℕ) → Gave (Rounds turns stamp) old n a mid m b
     → TellsMore mid true → Gave (Then (Answers stamp) (Part (Accepts launch))) mid m b new l d → Gave (GreetsAfter launch stamp) old n a new l d
-gave_greeted {stamp} {old} {mid} {new} {n} {m} {l} {a} {b} {d} launch g on h = gave_as counted (gave_then g (gave_as round h))
+gave_greeted {stamp} {old} {mid} {new} {n} {m} {l} {a} {b} {d} launch turns g on h = gave_as counted (gave_then g (gave_as round h))
   where
     round : (moves : List Move) → Then (Answers stamp) (Part (Accepts launch)) mid m moves new → GreetsRound launch stamp mid m moves new
     round moves t = record { more = on; does = t }
 
-    counted : (moves : List Move) → Then (SomeRounds false stamp) (GreetsRound launch stamp) old n moves new → GreetsAfter launch stamp old n moves new
-    counted moves t = (t.first.0, record { mid = t.mid; sooner = t.sooner; later = t.later; are = t.are; first = t.first.2; second = t.second })
+    counted : (moves : List Move) → Then (Rounds turns stamp) (GreetsRound launch stamp) old n moves new → GreetsAfter launch stamp old n moves new
+    counted moves t = (turns, t)
 
 -- where a script may be started the accept text may be written
 pub start_writes : (m : Marks) → may_start m ≡ true → may_write m ≡ true
@@ -89,9 +89,9 @@ pub begun_as : {stamp : Option ℕ} {old new : Conn} {n m : ℕ} {b d : Option (
     → Gave (Then (Answers stamp) (BeginsOr found stamp)) old n b new m d → Gave (Then (Answers stamp) (BeginsOr other stamp)) old n b new m d
 begun_as {stamp} {old} {new} {n} {m} {b} {d} {found} {other} is g = subst (λ (f : Option Launch). Gave (Then (Answers stamp) (BeginsOr f stamp)) old n b new m d) is g
 
-pub rounds_as : (stamp : Option ℕ) {old new : Conn} {n m : ℕ} {b d : Option (List Item)} {turns other : Turns} → turns ≡ other
-    → Gave (RoundsOr turns stamp) old n b new m d → Gave (RoundsOr other stamp) old n b new m d
-rounds_as stamp {old} {new} {n} {m} {b} {d} {turns} {other} is g = subst (λ (t : Turns). Gave (RoundsOr t stamp) old n b new m d) is g
+pub rounds_as : (most : ℕ) (stamp : Option ℕ) {old new : Conn} {n m : ℕ} {b d : Option (List Item)} {turns other : Turns} → turns ≡ other
+    → Gave (RoundsOr turns most stamp) old n b new m d → Gave (RoundsOr other most stamp) old n b new m d
+rounds_as most stamp {old} {new} {n} {m} {b} {d} {turns} {other} is g = subst (λ (t : Turns). Gave (RoundsOr t most stamp) old n b new m d) is g
 
 pub none_of : {found : Option Launch} → ((launch : Launch) → found ≡ Some launch → ⊥) → found ≡ None
 none_of {found} never = go found never

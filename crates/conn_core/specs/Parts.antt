@@ -1,5 +1,5 @@
 -- What each part of a step does.
-use Rattle.std.specs.Prelude.{ℕ, zero, suc, ◌≡◌, Bool, true, false, not, ◌&&◌, List, [], ◌∷◌, Option, Some, None}
+use Rattle.std.specs.Prelude.{ℕ, zero, suc, ◌≡◌, ◌<◌, ◌+◌, Bool, true, false, not, ◌&&◌, List, [], ◌∷◌, Option, Some, None}
 use Rattle.host_base.specs.declared.launch.Launch.{Launch}
 use Rattle.host_base.specs.declared.site.ScriptKind.{ScriptKind}
 use Rattle.host_base.specs.declared.site.Site.{Site}
@@ -14,7 +14,7 @@ use Rattle.child_core.specs.View.{View, begun}
 use Rattle.trace_child.specs.Words.{is_filled}
 use Rattle.conn_marks.specs.View.{has_room, is_live, noted}
 use Rattle.request_reader.specs.Request.{is_whole_head}
-use Rattle.exchange_request.specs.Knows.{Knows, is_looked_at, is_ready, limits_of}
+use Rattle.exchange_request.specs.Knows.{Knows, is_looked_at, is_ready, kept_of, limits_of}
 use Rattle.exchange_stage.specs.declared.stage.Leg.{Leg}
 use Rattle.exchange_stage.specs.declared.stage.Stage.{Stage}
 use Rattle.exchange_stage.specs.declared.stage.Stage.TheVariants.{Finishing, Running, Starting}
@@ -209,9 +209,9 @@ abbrev pub Rounds : ℕ → Option ℕ → Deed
 Rounds zero stamp old n moves new = Nothing old n moves new
 Rounds (suc turns) stamp old n moves new = Then (Rounds turns stamp) (Round stamp) old n moves new
 
--- .. of which there is one at least where more may go on
-abbrev pub SomeRounds : Bool → Option ℕ → Deed
-SomeRounds more stamp old n moves new = (turns : ℕ) × (more ≡ true → turns ≡ 0 → ⊥) × Rounds turns stamp old n moves new
+-- .. or some number of them
+abbrev pub SomeRounds : Option ℕ → Deed
+SomeRounds stamp old n moves new = (turns : ℕ) × Rounds turns stamp old n moves new
 
 -- something might go on, and doesn't: memory counts as wanting
 pub record LosesTurn (old : Conn) (n : ℕ) (moves : List Move) (new : Conn) : Type 0 where
@@ -225,6 +225,8 @@ pub record RoundsOn (stamp : Option ℕ) (old : Conn) (n : ℕ) (moves : List Mo
   pub rests : TellsMore new false
   -- where there was no round nothing is given up
   pub none : turns ≡ 0 → new ≡ old
+  -- .. nor before there was one for each byte that is kept, and two more
+  pub enough : turns < kept_of old.request + 2 → new ≡ does.mid
 
 abbrev pub Serves : Option ℕ → Deed
 Serves stamp = Then (Answers stamp) (Then Handles (RoundsOn stamp))

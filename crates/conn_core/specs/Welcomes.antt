@@ -1,5 +1,5 @@
 -- A handshake that is accepted (RFC 6455 4.2.2), and the acts of a step up to its accept text.
-use Rattle.std.specs.Prelude.{ℕ, ◌≡◌, true, false, List, Option, Some, None, Ok}
+use Rattle.std.specs.Prelude.{ℕ, ◌≡◌, true, List, Option, Some, None, Ok}
 use Rattle.host_base.specs.declared.launch.Launch.{Launch}
 use Rattle.host_base.specs.declared.request.Request.{Request}
 use Rattle.host_base.specs.declared.site.Mapped.{Mapped}
@@ -49,10 +49,11 @@ pub record GreetsRound (launch : Launch) (stamp : Option ℕ) (old : Conn) (n : 
 abbrev pub GreetsAfter : Launch → Option ℕ → Deed
 GreetsAfter launch stamp old n moves new = (turns : ℕ) × Then (Rounds turns stamp) (GreetsRound launch stamp) old n moves new
 
-abbrev pub RoundsOr : Turns → Option ℕ → Deed
-RoundsOr Over stamp = SomeRounds false stamp
-RoundsOr Spent stamp = SomeRounds true stamp
-RoundsOr (Greeted launch) stamp = GreetsAfter launch stamp
+-- rounds, so many where as many were made as may be
+abbrev pub RoundsOr : Turns → ℕ → Option ℕ → Deed
+RoundsOr Over most stamp = SomeRounds stamp
+RoundsOr Spent most stamp = Rounds most stamp
+RoundsOr (Greeted launch) most stamp = GreetsAfter launch stamp
 
 -- a step behind its event, up to the accept text of a handshake
 abbrev pub Greets : Launch → Option ℕ → Deed

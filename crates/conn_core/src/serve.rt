@@ -43,7 +43,7 @@ pub fn serve<O: Outside>(
     answer(conn, now, out);
     handle(conn, out);
     // each request that is answered takes bytes of the client, but one that waited for its turn and the last look
-    let most = conn.request.kept_len().saturating_add(1);
+    let most = conn.request.kept_len() as u128 + 2;
     match go_on_for(conn, most, now, children, out) {
         Turns::Over => None,
         Turns::Spent => {
@@ -57,18 +57,18 @@ pub fn serve<O: Outside>(
 // Round after round, so many at most.
 fn go_on_for<O: Outside>(
     conn: &mut Conn<'_>,
-    most: usize,
+    most: u128,
     now: Option<u64>,
     children: &mut u64,
     out: &mut O,
 ) -> Turns
     requires stamp { IsStamp now }
     requires served { IsServed (site_of conn.old) }
-    ensures gave { Gave (RoundsOr result now) conn.old children.old (O.trace out.old) conn.new children.new (O.trace out.new) }
+    ensures gave { Gave (RoundsOr result most now) conn.old children.old (O.trace out.old) conn.new children.new (O.trace out.new) }
     ensures rests { result ≡ Over → TellsMore conn.new false }
     ensures limit { O.limit out.new ≡ O.limit out.old }
 {
-    for _turn in 0..=most {
+    for _turn in 0..most {
         if !conn.may_go_on() {
             return Turns::Over;
         }

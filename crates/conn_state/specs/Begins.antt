@@ -7,7 +7,8 @@ use Rattle.host_base.specs.declared.request.Request.{Request}
 use Rattle.host_base.specs.declared.site.Mapped.{Mapped}
 use Rattle.host_base.specs.declared.site.ScriptKind.{ScriptKind}
 use Rattle.host_base.specs.declared.site.ScriptKind.TheVariants.{Cgi, Nph, WebSocket}
-use Rattle.meta_variables.specs.Launch.{launch_of}
+use Rattle.std.specs.Str.{is_utf8}
+use Rattle.meta_variables.specs.Launch.{is_text_or_none, launch_of}
 use Rattle.ws_handshake.specs.Handshake.{handshake, accept_text}
 use Rattle.reply_stream.specs.declared.asked.Asked.{Asked}
 use Rattle.reply_stream.specs.Writing.{nothing}
@@ -55,6 +56,10 @@ pub record IsLegOf (hop : ℕ) (kind : ScriptKind) (request : Request) (leg : Le
   pub text : leg.text ≡ []
   pub unticked : leg.ticked ≡ false
   pub reply : KnowsReply leg.reply (asked_of kind request) [] false nothing
+
+-- the method, the query and the host are texts
+abbrev pub has_texts : Request → Bool
+has_texts request = is_utf8 request.method && is_text_or_none request.target.query && is_text_or_none request.target.host
 
 -- the launch of a script, for the client of the connection
 pub record Launches (conn : Conn) (request : Request) (mapped : Mapped) (launch : Launch) : Type 0 where

@@ -103,6 +103,15 @@ HearsTick old closes stamp text new =
     (asked : Asked) (told : List ℕ) (ticked : Bool) (stood : Stood) → KnowsReply old asked told ticked stood
     → Gives asked told (ticked || is_header_whole asked.kind told) closes stamp stood text new
 
+-- .. or for this output and a Tick behind it: the text of the one, and then that of the other
+pub record HearsBoth (old : LegReply) (piece : List ℕ) (closes : Bool) (stamp : Option ℕ) (text : List ℕ) (new : LegReply) : Type 0 where
+  pub mid : LegReply
+  pub first : List ℕ
+  pub more : List ℕ
+  pub heard : HearsPiece old piece closes stamp first mid
+  pub ticked : HearsTick mid closes stamp more new
+  pub text_is : text ≡ first ++ more
+
 -- the reply was told what came, and this is to be written now
 pub record Tells (leg : Leg) (stamp : Option ℕ) (old new : Conn) : Type 0 where
   pub text : List ℕ
@@ -114,6 +123,7 @@ pub record Tells (leg : Leg) (stamp : Option ℕ) (old new : Conn) : Type 0 wher
   pub none : leg.ticked ≡ false → undrained old.run ≡ [] → text ≡ []
   pub tick : leg.ticked ≡ true → undrained old.run ≡ [] → HearsTick leg.reply closes stamp text reply
   pub filled : leg.ticked ≡ true → undrained old.run ≡ [] → is_filled text ≡ true → HasBegun leg.reply false
+  pub both : leg.ticked ≡ true → HearsBoth leg.reply (undrained old.run) closes stamp text reply
 
 -- ---- once it has ended
 

@@ -1,5 +1,6 @@
 // What is to be written of an answer.
-ghost use Rattle.std.specs.Prelude.{◌≡◌, IfOk, IfSome, OnErr, Some, true, false, [], option_map};
+ghost use Rattle.std.specs.Prelude.{◌≡◌, IfOk, IfSome, OnErr, Some, true, false, [], option_map, is_some};
+ghost use Rattle.script_map.specs.Redirects.{is_local};
 ghost use Rattle.trace_child.specs.Words.{is_filled};
 ghost use Rattle.trace_model.specs.Answer.{request_of_hop};
 ghost use Rattle.trace_model.specs.Readings.{is_head_request};
@@ -62,7 +63,8 @@ fn request_of_hop(
     request: &Request,
     location: &Bytes,
 ) -> Result<Option<Request>, NoMemory>
-    ensures { IfOk result (λ found. IfSome found (λ made. made ≡ request_of_hop request.now location.now)) }
+    ensures made { IfOk result (λ found. IfSome found (λ made. made ≡ request_of_hop request.now location.now)) }
+    ensures local { IfOk result (λ found. is_some found ≡ is_local location.now) }
 {
     if !is_local(location.as_slice()) {
         return Ok(None);
@@ -88,7 +90,7 @@ impl<'s> Conn<'s> {
     ghost use Rattle.conn_state.specs.Kept.{Gave, Kept, site_of};
     ghost use Rattle.conn_state.specs.Begins.{ByOutcome, ReadiesAnswer};
     ghost use Rattle.conn_state.specs.Deeds.{GivesUp};
-    ghost use Rattle.conn_state.specs.Ready.{Breaks, Concludes, Faults, HearsPiece, HearsTick, HasBegun, Lacks, LacksTick, MayLack, MayLackReply, ReadsAll, Tells, closes_with, drained_run, outcome_of_run, stage_of_hop, undrained};
+    ghost use Rattle.conn_state.specs.Ready.{Breaks, Concludes, Faults, HearsBoth, HearsPiece, HearsTick, HasBegun, Lacks, LacksTick, MayLack, MayLackReply, ReadsAll, Tells, closes_with, drained_run, outcome_of_run, stage_of_hop, undrained};
     ghost use Rattle.reply_writer.specs.WholeRules.{IsStamp};
 
     /// Makes ready what is due of the exchange's answer.
@@ -216,6 +218,8 @@ impl<'s> Conn<'s> {
         ensures none { leg.old.ticked ≡ false → undrained self.old.run ≡ [] → IfOk result (λ text. text ≡ []) }
         ensures filled { leg.old.ticked ≡ true → undrained self.old.run ≡ []
             → IfOk result (λ text. is_filled text ≡ true → HasBegun leg.old.reply false) }
+        ensures both { leg.old.ticked ≡ true
+            → IfOk result (λ text. HearsBoth leg.old.reply (undrained self.old.run) closes now text leg.new.reply) }
         ensures lacks { OnErr result (undrained self.old.run ≡ [] → (leg.old.ticked ≡ true) × LacksTick leg.old.reply) }
     {
         let piece = self.next_piece();

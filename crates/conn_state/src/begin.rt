@@ -1,10 +1,11 @@
 // How a hop begins.
-ghost use Rattle.std.specs.Prelude.{◌≡◌, IsTrue, IfSome};
+ghost use Rattle.std.specs.Prelude.{◌≡◌, IsTrue, IfSome, None};
 ghost use Rattle.host_base.specs.SiteRules.{IsServed};
 ghost use Rattle.meta_variables.specs.Launch.{HasTexts, NamesScript, is_text_or_none};
 ghost use Rattle.std.specs.Str.{is_utf8};
 ghost use Rattle.std.specs.Prelude.{Some};
 ghost use Rattle.trace_model.specs.Places.{script_of};
+ghost use Rattle.conn_state.specs.Begins.{has_texts};
 
 use crate::answer::is_head;
 use crate::conn::Conn;
@@ -44,7 +45,8 @@ fn is_text_or_none(bytes: &Option<Bytes>) -> bool
 
 // The method, the query and the host are texts.
 fn has_texts(request: &Request) -> bool
-    ensures { IsTrue result → HasTexts request.now }
+    ensures is { result ≡ has_texts request.now }
+    ensures texts { IsTrue result → HasTexts request.now }
 {
     let method = is_text(request.method.as_slice());
     let query = is_text_or_none(&request.target.query);
@@ -56,6 +58,7 @@ fn has_texts(request: &Request) -> bool
 fn script_at<'a>(site: &'a Site, mapped: &Mapped) -> Option<&'a Script>
     ensures names { IfSome result (λ script. NamesScript site.now mapped.now) }
     ensures is { IfSome result (λ script. script_of site.now mapped.now ≡ Some script.now) }
+    ensures none { result ≡ None → script_of site.now mapped.now ≡ None }
 {
     match site.hosts.as_slice().get(mapped.host as usize) {
         Some(host) => host.scripts.as_slice().get(mapped.index as usize),

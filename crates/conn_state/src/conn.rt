@@ -213,9 +213,10 @@ impl<'s> Conn<'s> {
         }
     }
 
-    /// Its number is that of the exchange: they are counted no further.
+    /// Whether the number of the exchange is its own: the last one is that of all behind it too.
     pub fn is_counted(&self) -> bool
-        ensures { result ≡ true → self.now.number < 2 ^ 128 - 1 }
+        ensures below { result ≡ true → self.now.number < 2 ^ 128 - 1 }
+        ensures last { result ≡ false → self.now.number ≡ 2 ^ 128 - 1 }
     {
         self.number < u128::MAX
     }

@@ -152,9 +152,10 @@ module _ (conn : Conn) (stamp : Option ℕ) (n : ℕ) (dead : is_live (marks_of 
   rounds : Idle conn n (RoundsOn stamp)
   rounds = record {
     turns = 0;
-    does = both conn n (Rounds 0 stamp) (Or Nothing (Part LosesTurn)) (nothing conn n) (the_one (nothing conn n));
+    does = record { mid = conn; sooner = []; later = []; are = refl; first = nothing conn n; second = the_one (nothing conn n) };
     rests = record { done = done; tells = done_told; is = goes_none conn.stage };
     none = λ turns. refl;
+    enough = λ few. refl;
   }
 
   closes : Idle conn n Closes

@@ -165,6 +165,7 @@ module _ (conn : Conn) (L : List Item) (e : Exchange) (legs : List Started) (n :
           none = λ unticked nothing_came. refl;
           tick = λ ticked. absurd (false≢true (sym rest.1 ∙ ticked));
           filled = λ ticked. absurd (false≢true (sym rest.1 ∙ ticked));
+          both = λ ticked. absurd (false≢true (sym rest.1 ∙ ticked));
         }
 
     dead_not : live_then (number_of conn) (all_of e) ≡ false → ⊥

@@ -135,9 +135,10 @@ module _ (conn : Conn) (L : List Item) (e : Exchange) (legs : List Started) (n :
       let handles : Idle conn n Handles = both conn n ServesOrLoses (Part Ends) (the_one child) (part conn n Ends over) in
       let rounds : Idle conn n (RoundsOn stamp) = record {
         turns = 0;
-        does = both conn n (Rounds 0 stamp) (Or Nothing (Part LosesTurn)) (nothing conn n) (the_one (nothing conn n));
+        does = record { mid = conn; sooner = []; later = []; are = refl; first = nothing conn n; second = the_one (nothing conn n) };
         rests = record { done = done; tells = done_is conn; is = goes_none conn.stage q.rests };
         none = λ turns. refl;
+        enough = λ few. refl;
       } in
       let closes : Idle conn n Closes = record { why = None; tells = record { done = done; tells = done_is conn; is = sym (none_why conn done live (g conn L e legs n r stamp live)) }; by = nothing conn n } in
       let wants : Idle conn n Wants = record { due = false; tells = record { done = done; tells = done_is conn; is = sym asks_none }; by = nothing conn n } in

@@ -18,4 +18,5 @@ returns-in-Ok-clause-part c lost = record {
   tick = c.in-Ok.ensures.tick;
   none = c.in-Ok.ensures.none;
   filled = c.in-Ok.ensures.filled;
+  both = c.in-Ok.ensures.both;
 }
