@@ -6,7 +6,7 @@
 set -eu
 [ -x /bin/echo ] || { echo 'children.sh: skipped, there is no /bin/echo'; exit 0; }
 . "$(dirname "$0")/crates.sh"
-copy_crates children_speed 'host_base host_trace pipe_pump child_edge pump_pool std_spawner crossbeam_utils'
+copy_crates children_speed 'host_base host_trace loop_bell pipe_pump child_edge pump_pool std_spawner crossbeam_utils'
 mkdir -p "$speed/proofs/through_set"
 cat >"$speed/src/main.rt" <<'END_OF_PROGRAM'
 // Small programs through a set of real children, beside a bare loop of spawn, read to the end and wait.
@@ -20,6 +20,7 @@ use child_edge::{ChildSet, SpawnFault};
 use crossbeam_utils::sync::Parker;
 use host_base::{Launch, NoMemory, Pairs, Text, Texts};
 use host_trace::Event;
+use loop_bell::Bell;
 use pump_pool::Station;
 use std::alloc::Global;
 use std::io;
@@ -27,7 +28,7 @@ use std::io::{ErrorKind, Read};
 use std::process::{Child, Command, Processes, Stdio, SystemProcess};
 use std::sync::Wait;
 use std::time::{Clock, Duration, Instant};
-use std_spawner::{Bell, PumpJob, StdSpawner, ThreadStarter};
+use std_spawner::{PumpJob, StdSpawner, ThreadStarter};
 
 const PROGRAM: &str = "/bin/echo";
 

@@ -4,7 +4,7 @@
 # copies of the crates.
 set -eu
 . "$(dirname "$0")/crates.sh"
-copy_crates pump_speed 'host_base pipe_pump pump_pool std_spawner crossbeam_utils'
+copy_crates pump_speed 'host_base loop_bell pipe_pump pump_pool std_spawner crossbeam_utils'
 cat >"$speed/src/main.rt" <<'END_OF_PROGRAM'
 // Reads standard input to its end by a pump in a thread, through a ring, and prints how many bytes came.
 #![tactic(auto)]
@@ -13,6 +13,7 @@ ghost use Rattle.std.specs.Prelude.{◌≡◌, IfOk};
 
 use crossbeam_utils::sync::Parker;
 use host_base::NoMemory;
+use loop_bell::Bell;
 use pipe_pump::{PumpRing, Tap, rings};
 use pump_pool::{OutPump, Station};
 use std::alloc::Global;
@@ -20,7 +21,7 @@ use std::io;
 use std::io::{ErrorKind, Stdin};
 use std::sync::Wait;
 use std::thread::yield_now;
-use std_spawner::{Bell, PumpJob, StandardInput, StdSpawner, ThreadStarter};
+use std_spawner::{PumpJob, StandardInput, StdSpawner, ThreadStarter};
 
 const RING: usize = 65_536;
 

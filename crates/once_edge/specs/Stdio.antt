@@ -50,6 +50,11 @@ module _ {P K : Type 0} where
   abbrev pub all_heard : StdioSocket P K → List ℕ
   all_heard s = handed_up s.tap ++ standing s.tap
 
+  -- the pump is not known to have ended, and no byte is known to stand in the ring
+  pub record IsDry (s : StdioSocket P K) : Type 0 where
+    pub runs : s.end ≡ None
+    pub empty : standing s.tap ≡ []
+
   -- the end comes only where the pump came to the end and nothing is left, and a failure only where it ended otherwise
   abbrev pub Ends : StdioSocket P K → Received → Type 0
   Ends s (Got.Bytes n) = ⊤

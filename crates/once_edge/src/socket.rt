@@ -91,7 +91,7 @@ impl<P: PipeIn + Drop, K: Sink> Socket for StdioSocket<P, K> {
     ghost use Rattle.socket_set.specs.Sockets.{Receives, Sends};
     ghost use Rattle.socket_set.specs.declared.socket.Received.TheVariants.{Bytes};
     ghost use Rattle.socket_set.specs.declared.socket.Sent.TheVariants.{Took};
-    ghost use Rattle.once_edge.specs.Stdio.{socket_tells, heard_by, heard_in, all_heard, Gave, Ends, Puts};
+    ghost use Rattle.once_edge.specs.Stdio.{socket_tells, heard_by, heard_in, all_heard, Gave, IsDry, Ends, Puts};
 
     ghost tells = { socket_tells };
 
@@ -104,6 +104,7 @@ impl<P: PipeIn + Drop, K: Sink> Socket for StdioSocket<P, K> {
         // What is given was handed up by the tap, and the end comes only where the pump came to its own.
         ensures heard { heard_by self.new ≡ heard_by self.old ++ heard_in result into.new }
         ensures end { Ends self.new result }
+        ensures nothing { result ≡ Received.Nothing → 0 < length into.old → IsDry self.new }
 
         // Once the pump's end is known, what was given and what stands in the ring is what the pipe gave, in order. Its
         // thread has the pipe until then, so nothing is told of that before.

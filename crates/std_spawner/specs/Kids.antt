@@ -1,10 +1,10 @@
 -- What a real child tells of itself.
-use Rattle.std.specs.Prelude.{◌≡◌, ◌≤◌, None, false}
+use Rattle.std.specs.Prelude.{◌≡◌, ◌≤◌, Bool, None, false}
 use Rattle.pipe_pump.specs.declared.from_pipe.PumpRing.{PumpRing}
 use Rattle.pipe_pump.specs.declared.feed_ring.FeedRing.{FeedRing}
 use Rattle.host_base.specs.declared.launch.Launch.{Launch}
 use Rattle.pump_pool.specs.Pumps.{ring_of}
-use Rattle.std_spawner.specs.Programs.{launch_of}
+use Rattle.std_spawner.specs.Programs.{launch_of, has_ended}
 use Rattle.child_edge.specs.Kids.{KidTells}
 use Rattle.std_spawner.specs.declared.kid.StdKid.{StdKid}
 
@@ -23,6 +23,10 @@ kid_tells kid =
       in_looks = kid.in_looks;
       reap_looks = kid.reap_looks;
     }
+
+-- the system told how its program ended
+abbrev pub is_gone : {R T : Type 0} → StdKid R T → Bool
+is_gone kid = has_ended kid.program
 
 -- it was just started by this launch, on these rings
 pub record IsNewStdKid {R T : Type 0} (launch : Launch) (ring : PumpRing) (feed : FeedRing) (kid : StdKid R T) : Type 0 where

@@ -14,9 +14,9 @@ pub record PaceState : Type 0 where
 abbrev pub at_work : PaceState
 at_work = record { leaving = false; soon = 0; distance = 100000; next = 0 }
 
--- a child that is to leave: it is asked sixteen times with no distance, and then at growing ones
+-- a child that is to leave: it is asked sixty-four times with no distance, and then at growing ones
 abbrev pub leaving_now : PaceState
-leaving_now = record { leaving = true; soon = 16; distance = 50; next = 0 }
+leaving_now = record { leaving = true; soon = 64; distance = 50; next = 0 }
 
 abbrev pub left_after : PaceState → PaceState
 left_after pace = if pace.leaving then pace else leaving_now
@@ -26,3 +26,9 @@ abbrev pub asked_at : ℕ → ℕ → PaceState → PaceState
 asked_at most now pace =
     if nat_lt now pace.next then pace
     else record pace { next = min (now + pace.distance * 1000) most; distance = min (pace.distance * 2) 100000 }
+
+-- it was asked by a clock that showed no less than the next ask was to wait for
+pub record IsAskedByClock (most : ℕ) (old new : PaceState) : Type 0 where
+  pub now : ℕ
+  pub due : nat_lt now old.next ≡ false
+  pub after : new ≡ asked_at most now old

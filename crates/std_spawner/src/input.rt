@@ -104,7 +104,7 @@ pub(crate) enum Input {
 
 impl Input {
     ghost use Rattle.std.specs.Prelude.{◌≡◌, Some, None, IfOk, IfSome};
-    ghost use Rattle.std_spawner.specs.Inputs.{feed_mark, IsInputEnd, IsInputEndOf};
+    ghost use Rattle.std_spawner.specs.Inputs.{feed_mark, waiting, IsInputEnd, IsInputEndOf};
     ghost use Rattle.pipe_pump.specs.declared.feed_ring.FeedRing.{FeedRing};
 
     /// What the pump left, once it has ended, and only once. It doesn't wait. Where there is something to move and no
@@ -192,7 +192,9 @@ impl Input {
     }
 
     /// Its thread, where that waits.
-    pub fn into_worker(self) -> Option<Worker<PumpJob>> {
+    pub fn into_worker(self) -> Option<Worker<PumpJob>>
+        ensures { result ≡ waiting self }
+    {
         match self {
             Input::Held(_) | Input::Running(_) => None,
             Input::Ended(thread) => thread,

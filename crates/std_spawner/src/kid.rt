@@ -61,7 +61,10 @@ fn has_failed(end: PumpEnd) -> bool
 }
 
 impl<R: Wait + Clock, T: StartThread + Drop> Kid for StdKid<R, T> {
-    ghost use Rattle.std_spawner.specs.Kids.{kid_tells};
+    ghost use Rattle.std.specs.Prelude.{◌≡◌};
+    ghost use Rattle.host_base.specs.Outsides.{Rose};
+    ghost use Rattle.child_edge.specs.Kids.{SameKid, SameOut, SameIn, Reaps};
+    ghost use Rattle.std_spawner.specs.Kids.{kid_tells, is_gone};
 
     type In = ChildInput;
 
@@ -104,7 +107,15 @@ impl<R: Wait + Clock, T: StartThread + Drop> Kid for StdKid<R, T> {
         self.pace.leave();
     }
 
-    fn reap(&mut self) -> Reap {
+    fn reap(&mut self) -> Reap
+        ensures same { SameKid (kid_tells self.old) (kid_tells self.new) }
+        ensures rest { SameOut (kid_tells self.old) (kid_tells self.new) × SameIn (kid_tells self.old) (kid_tells self.new) }
+        ensures looked { Rose (kid_tells self.old).reap_looks (kid_tells self.new).reap_looks }
+        ensures answer { Reaps (kid_tells self.old) (kid_tells self.new) result }
+
+        // No exit that the system tells is lost.
+        ensures told { result ≡ Reap.Running → is_gone self.new ≡ is_gone self.old }
+    {
         self.reap_looks = one_more(self.reap_looks);
         if self.reaped {
             return Reap::Exited;

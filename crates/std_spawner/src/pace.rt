@@ -1,14 +1,14 @@
 // When a child is asked for its exit.
-ghost use Rattle.std.specs.Prelude.{◌≡◌, ◌-◌, ◌<◌, true, false, not, nat_lt};
+ghost use Rattle.std.specs.Prelude.{◌≡◌, ◌-◌, ◌<◌, ◌⊎◌, true, false, not, nat_lt};
 ghost use Rattle.std.specs.Duration.{as_nanos, max_nanos};
-ghost use Rattle.std_spawner.specs.Paces.{at_work, left_after, asked_at};
+ghost use Rattle.std_spawner.specs.Paces.{at_work, left_after, asked_at, IsAskedByClock};
 
 use std::marker::Model;
 use std::time::{Clock, Duration};
 
-// How often a child that is to leave is asked with no distance. A small program closes its output some tens of
+// How often a child that is to leave is asked with no distance. A small program closes its output 50 to 120
 // microseconds before it can be reaped.
-const SOON: u64 = 16;
+const SOON: u64 = 64;
 
 // The shortest and the longest distance between two asks, in microseconds.
 const LEAST: u64 = 50;
@@ -69,6 +69,9 @@ impl Pace {
     pub fn is_due<R: Clock>(&mut self, rt: &R) -> bool
         ensures soon { 0 < self.old.soon → (result ≡ true) × (self.new ≡ record self.old { soon = self.old.soon - 1 }) }
         ensures early { result ≡ false → self.new ≡ self.old }
+
+        // With no time told the pace stays.
+        ensures asked { self.old.soon ≡ 0 → result ≡ true → (self.new ≡ self.old) ⊎ IsAskedByClock max_nanos self.old self.new }
     {
         if self.soon > 0 {
             self.soon -= 1;

@@ -21,7 +21,7 @@ pub(crate) struct Program {
 }
 
 impl Program {
-    ghost use Rattle.std.specs.Prelude.{◌≡◌, true, Ok, IfOk};
+    ghost use Rattle.std.specs.Prelude.{◌≡◌, true, IfOk};
     ghost use Rattle.std_spawner.specs.Programs.{launch_of, has_ended, OfSameLaunch};
 
     // Starts a command. Nothing is done to it between its mark and its start.
@@ -87,7 +87,7 @@ impl Program {
     /// Reaps it where it has exited, and answers whether it has. It doesn't wait.
     pub fn has_exited(&mut self) -> io::Result<bool>
         ensures launch { OfSameLaunch self.old self.new }
-        ensures ended { result ≡ Ok true → has_ended self.new ≡ true }
+        ensures ended { IfOk result (λ is_gone. has_ended self.new ≡ is_gone) }
     {
         Ok(self.process.try_wait()?.is_some())
     }

@@ -68,12 +68,14 @@ impl<T: Drop> IdleThreads<T> {
 
 impl<T: StartThread> IdleThreads<T> {
     ghost use Rattle.std.specs.Prelude.{◌≡◌, ◌≤◌, ◌<◌, ◌++◌, ◌∷◌, [], IfOk, IsOk, vec_len};
+    ghost use Rattle.pump_pool.specs.Workers.{given};
 
     // One that waits, or else a new one.
     fn take(&mut self) -> Result<Worker<PumpJob>, SpawnFault>
         ensures waits { 0 < vec_len self.old.idle → IfOk result (λ w. self.old.idle.items ≡ self.new.idle.items ++ w ∷ []) }
         ensures succeeds { 0 < vec_len self.old.idle → IsOk result }
         ensures new { vec_len self.old.idle ≡ 0 → self.new.idle.items ≡ self.old.idle.items }
+        ensures unused { vec_len self.old.idle ≡ 0 → IfOk result (λ w. given w ≡ []) }
     {
         if let Some(worker) = self.idle.pop() {
             return Ok(worker);
