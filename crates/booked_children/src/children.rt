@@ -209,10 +209,12 @@ impl<S: Spawner + Drop, L: Ledger, R: Wait + Drop> BookedChildren<S, L, R> {
         (self.faults, self.full.count())
     }
 
-    /// Ends every child, spends all tickets, and gives the part of the ledger back.
-    pub fn end(self) -> Share<L>
-        ensures one_part { result.parts ≡ 1 }
-        ensures none { result.amount ≡ 0 }
+    /// Ends every child and spends all tickets.
+    #[tactic(auto, using(crate::proofs::Sounds::each_none, crate::proofs::Matches::have_none))]
+    pub fn end_all(&mut self)
+        ensures none_kept { self.new.set.rows.items ≡ [] }
+        ensures none_held { self.new.tickets.items ≡ [] }
+        ensures counts { (self.new.faults ≡ self.old.faults) × (self.new.full ≡ self.old.full) }
     {
         let BookedChildren {
             rt,
@@ -223,10 +225,27 @@ impl<S: Spawner + Drop, L: Ledger, R: Wait + Drop> BookedChildren<S, L, R> {
             full: _,
             faults: _,
         } = self;
-        let mut set = set;
         set.end();
-        let mut share = share;
-        tickets::reap_all(&rt, &*book, &mut share, tickets, &set);
+        tickets::reap_all(rt, &**book, share, tickets, set);
+    }
+
+    /// Ends every child, spends all tickets, and gives the part of the ledger back.
+    pub fn end(self) -> Share<L>
+        ensures one_part { result.parts ≡ 1 }
+        ensures none { result.amount ≡ 0 }
+    {
+        let mut children = self;
+        children.end_all();
+        let BookedChildren {
+            rt: _,
+            book: _,
+            share,
+            tickets,
+            set: _,
+            full: _,
+            faults: _,
+        } = children;
+        tickets.destroy_empty();
         share
     }
 }

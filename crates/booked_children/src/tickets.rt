@@ -110,19 +110,18 @@ pub(crate) fn reap_all<L: Ledger, R: Wait, S: Spawner>(
     rt: &R,
     book: &Mutex<Book<L>>,
     share: &mut Share<L>,
-    tickets: Vec<Held>,
+    tickets: &mut Vec<Held>,
     set: &ChildSet<S>,
 )
     requires ended { set.now.rows.items ≡ [] }
-    requires held { share.old.amount ≡ vec_len tickets }
+    requires held { share.old.amount ≡ vec_len tickets.old }
     ensures none { share.new.amount ≡ 0 }
+    ensures spent { tickets.new.items ≡ [] }
     ensures parts { share.new.parts ≡ share.old.parts }
 {
     let _ = set;
-    let mut tickets = tickets;
     while let Some(held) = tickets.pop() {
         let Held { k: _, ticket } = held;
         give_back(rt, book, share, ticket);
     }
-    tickets.destroy_empty();
 }

@@ -2,3 +2,4 @@ pub mod Causes
 pub mod Quiet
 pub mod Stops
 pub mod Fresh
+pub mod Closing

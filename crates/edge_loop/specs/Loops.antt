@@ -1,5 +1,5 @@
 -- What the outside of one loop remembers, and which event comes next.
-use Rattle.std.specs.Prelude.{◌≡◌, ℕ, ◌≤◌, ◌+◌, ◌-◌, ◌^◌, ◌⊎◌, min, Bool, true, false, List, [], ◌∷◌, ◌++◌, count_by, Option, Some, None, ⊤}
+use Rattle.std.specs.Prelude.{◌≡◌, ◌≢◌, ℕ, ◌≤◌, ◌+◌, ◌-◌, ◌^◌, ◌⊎◌, min, Bool, true, false, List, [], ◌∷◌, ◌++◌, count_by, Option, Some, None, ⊤}
 use Rattle.std.specs.List.{All}
 use Rattle.host_base.specs.Outsides.{Rose}
 use Rattle.host_base.specs.declared.launch.Launch.{Launch}
@@ -71,6 +71,12 @@ ending_after _ ending = ending
 abbrev pub unstarted_by : Event → ℕ → Option ℕ → Option ℕ
 unstarted_by (NoRoom c) k before = Some k
 unstarted_by _ k before = before
+
+-- client c is open no more, and the others are as they were
+pub record Closes (c : ℕ) (old new : SetState) : Type 0 where
+  pub shut : is_open_at (clients new c) ≡ false
+  pub others : (d : ℕ) → d ≢ c → clients new d ≡ clients old d
+  pub listening : new.listening ≡ old.listening
 
 -- NoRoom is told of a connection that is open
 abbrev pub TellsOpen : Event → SetState → Type 0
@@ -144,6 +150,15 @@ module _ {K : Type 0} where
   pub record IsStill (s : LoopState K) : Type 0 where
     pub none_kept : count_by is_kept s.rows ≡ 0
     pub none_asked : s.starts ≡ []
+    pub sent : All (λ row. row.1.outgoing ≡ []) s.set.rows
+
+  -- no child is kept, and no further client is accepted
+  pub record IsHalted (s : LoopState K) : Type 0 where
+    pub none_kept : s.rows ≡ []
+    pub deaf : s.set.listening ≡ false
+
+  -- nothing waits to be sent
+  pub record IsSent (s : LoopState K) : Type 0 where
     pub sent : All (λ row. row.1.outgoing ≡ []) s.set.rows
 
   -- an end was ordered, or a quiet end that is reached, or was ordered 300 ticks ago

@@ -5,6 +5,7 @@
 
 mod asked;
 mod ending;
+mod leaving;
 mod orders;
 mod outside;
 mod stock;
@@ -12,6 +13,7 @@ mod world;
 
 pub use asked::Asked;
 pub use ending::Ending;
+pub use leaving::{Leaving, Sending, send_all};
 pub use orders::{Order, Orders};
 pub use outside::NetOutside;
 pub use stock::{Maker, Parts};

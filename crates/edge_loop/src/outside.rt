@@ -1,7 +1,10 @@
 // The outside of one loop.
-ghost use Rattle.std.specs.Prelude.{◌≡◌, [], All, is_ok, if◌then◌else◌};
+ghost use Rattle.std.specs.Prelude.{◌≡◌, ◌<◌, ℕ, false, is_ok, if◌then◌else◌};
+ghost use Rattle.socket_set.specs.Sets.{clients, is_open_at};
+ghost use Rattle.edge_loop.specs.Loops.{Closes};
 
-use super::{Asked, Ending, Order, Orders};
+use super::leaving::send_one;
+use super::{Asked, Ending, Leaving, Order, Orders, Sending};
 use booked_children::BookedChildren;
 use child_book::{Ledger, Share};
 use child_edge::Spawner;
@@ -84,7 +87,7 @@ impl<
     ghost use Rattle.socket_set.specs.Sets.{IsQuiet as IsQuietSet, Tells, Acts as SetActs, told_by};
     ghost use Rattle.socket_set.specs.Clients.{has_failed};
     ghost use Rattle.edge_loop.specs.Orders.{stopped_by};
-    ghost use Rattle.edge_loop.specs.Loops.{faults_of, IsNew, IsQuiet, Counts, Counted, IsDue, HasNoneDue, IsHeard, IsOwed, OwedAfterOrder, TakesOrder, ending_after, OfClient, OfChild, OfStart, OfOrder, IsBegun, TellsOpen, ToldNoRoom, IsStill, IsStopDue, Asks, Acts, Starts, OnChildren, OnClients};
+    ghost use Rattle.edge_loop.specs.Loops.{faults_of, IsNew, IsQuiet, Counts, Counted, IsDue, HasNoneDue, IsHeard, IsOwed, OwedAfterOrder, TakesOrder, ending_after, OfClient, OfChild, OfStart, OfOrder, IsBegun, TellsOpen, ToldNoRoom, IsStill, IsStopDue, Asks, Acts, Starts, OnChildren, OnClients, IsHalted, IsSent};
 
     /// A loop of which nothing was heard, over clients and children of whom none came. Whoever gives its orders and its
     /// children wakes its ports.
@@ -434,15 +437,39 @@ impl<
         self.sockets.act(act)
     }
 
+    /// Ends every child and spends all tickets, and accepts no further client. Where anything is unsent every client is
+    /// shut: one that takes none of it for 150 ticks is given up.
+    pub fn halt(&mut self)
+        ensures { IsHalted self.new }
+    {
+        self.children.end_all();
+        self.sockets.end_listening();
+        shut_unsent(&mut self.sockets);
+    }
+
     /// Ends every child, spends all tickets and sends what is still unsent, for at most 150 ticks without a byte that
     /// leaves for a client. It gives its part of the ledger back.
     pub fn end(self) -> Share<L>
         ensures one_part { result.parts ≡ 1 }
         ensures none { result.amount ≡ 0 }
     {
+        let rt = self.rt;
+        let mut out = self;
+        out.halt();
+        send_one(&rt, &mut out);
+        out.give_back()
+    }
+
+    /// Of a loop to whose clients nothing waits to be sent: ends every child, spends all tickets, and gives its part of
+    /// the ledger back.
+    pub(crate) fn give_back(self) -> Share<L>
+        requires { IsSent self }
+        ensures one_part { result.parts ≡ 1 }
+        ensures none { result.amount ≡ 0 }
+    {
         let NetOutside {
-            rt,
-            sockets,
+            rt: _,
+            sockets: _,
             children,
             orders: _,
             starts: _,
@@ -453,42 +480,62 @@ impl<
             in_row: _,
             limit: _,
         } = self;
-        let share = children.end();
-        let mut sockets = sockets;
-        send_rest(&rt, &mut sockets);
-        share
+        children.end()
     }
 }
 
-// Shuts every client, and sends what is still unsent. A client that takes none of it for 150 ticks is let go.
-fn send_rest<P: Ports + Drop, R: Wait>(rt: &R, sockets: &mut SocketSet<P>)
-    ensures { All (λ row. row.1.outgoing ≡ []) sockets.new.rows }
+impl<P: Ports + Drop, S: Spawner + Drop, O: Orders + Drop, L: Ledger, R: Wait + Copy + Drop> Leaving
+    for NetOutside<P, S, O, L, R> {
+    ghost use Rattle.edge_loop.specs.Loops.{IsHalted, IsSent};
+
+    ghost is_halted = { IsHalted };
+
+    ghost is_sent = { IsSent };
+
+    fn send_some(&mut self) -> Sending {
+        if self.sockets.is_all_sent() {
+            return Sending::Done;
+        }
+        match self.sockets.poll() {
+            Polled::Nothing => Sending::Blocked,
+            Polled::Told(_) | Polled::Again => Sending::Moving,
+        }
+    }
+
+    fn wait_to_send(&mut self, millis: u64) {
+        self.sockets.wait(millis);
+    }
+}
+
+// Shuts every client, where anything waits to be sent.
+fn shut_unsent<P: Ports + Drop>(sockets: &mut SocketSet<P>)
+    ensures { sockets.new.listening ≡ sockets.old.listening }
 {
-    sockets.end_listening();
     if !sockets.is_all_sent() {
         shut_all(sockets);
     }
-    for _ in rt.forever() {
-        if sockets.is_all_sent() {
-            return;
-        }
-        match sockets.poll() {
-            Polled::Told(_) => {}
-            Polled::Nothing => sockets.wait(MOST),
-            Polled::Again => sockets.wait(0),
-        }
-    }
-    unreachable!()
 }
 
-fn shut_all<P: Ports + Drop>(sockets: &mut SocketSet<P>) {
+// Shuts every client.
+fn shut_all<P: Ports + Drop>(sockets: &mut SocketSet<P>)
+    ensures listening { sockets.new.listening ≡ sockets.old.listening }
+    ensures shut { (c : ℕ) → c < sockets.old.accepted → is_open_at (clients sockets.new c) ≡ false }
+{
     for c in 0..sockets.accepted() {
-        if sockets.is_open(c) {
-            let _ = sockets.act(&Act::Shut {
-                c,
-                why: Why::Stopped,
-            });
-        }
+        shut_one(sockets, c);
+    }
+}
+
+// Shuts client c, if it is open.
+#[tactic(auto, using(crate::proofs::Closing::closed_by, crate::proofs::Closing::closed_already))]
+fn shut_one<P: Ports + Drop>(sockets: &mut SocketSet<P>, c: u64)
+    ensures { Closes c sockets.old sockets.new }
+{
+    if sockets.is_open(c) {
+        let _ = sockets.act(&Act::Shut {
+            c,
+            why: Why::Stopped,
+        });
     }
 }
 

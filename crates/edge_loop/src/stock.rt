@@ -1,7 +1,7 @@
 // The parts of the ledger: those that no loop has, and those that are given out with a loop and come back.
 ghost use Rattle.std.specs.Prelude.{◌≡◌, ◌+◌, ◌<◌, ◌≤◌, ℕ, IfOk, OnOk, OnErr, All, vec_len, vec_capacity};
 ghost use Rattle.host_base.specs.Outsides.{Rose};
-ghost use Rattle.edge_loop.specs.Loops.{IsFresh};
+ghost use Rattle.edge_loop.specs.Loops.{IsFresh, IsHalted, IsSent};
 
 use super::{NetOutside, Orders};
 use booked_children::BookedChildren;
@@ -58,6 +58,7 @@ pub(crate) struct Sixteen<L: Ledger> {
 impl<L: Ledger> Sixteen<L> {
     pub fn new() -> Self
         requires { L.parts ≡ 16 }
+        ensures { L.parts ≡ 16 }
     {
         Sixteen { of: PhantomData }
     }
@@ -91,7 +92,23 @@ impl<L: Ledger> Sixteen<L> {
     }
 }
 
-// Takes outsides back: their tickets are spent, and their parts come to the rest.
+// Halts each.
+pub(crate) fn halt_all<
+    P: Ports + Drop,
+    S: Spawner + Drop,
+    O: Orders + Drop,
+    L: Ledger,
+    R: Wait + Copy + Drop,
+>(outs: &mut [NetOutside<P, S, O, L, R>])
+    ensures { All IsHalted outs.new }
+{
+    for i in 0..outs.len() {
+        outs[i].halt();
+    }
+}
+
+// Takes outsides back to whose clients nothing waits to be sent: their tickets are spent, and their parts come to the
+// rest.
 pub(crate) fn take_back<
     P: Ports + Drop,
     S: Spawner + Drop,
@@ -100,12 +117,13 @@ pub(crate) fn take_back<
     R: Wait + Copy + Drop,
 >(rest: &mut Share<L>, outs: Vec<NetOutside<P, S, O, L, R>>)
     requires none { rest.old.amount ≡ 0 }
+    requires sent { All IsSent outs.items }
     ensures none { rest.new.amount ≡ 0 }
     ensures parts { rest.new.parts ≡ rest.old.parts + vec_len outs }
 {
     let mut outs = outs.into_iter();
     while let Some(out) = outs.next() {
-        rest.merge(out.end());
+        rest.merge(out.give_back());
     }
     outs.destroy_empty();
 }

@@ -4,7 +4,7 @@ ghost use Rattle.host_base.specs.Outsides.{Rose};
 ghost use Rattle.edge_loop.specs.Loops.{IsFresh};
 
 use super::stock::Sixteen;
-use super::{Maker, NetOutside, stock};
+use super::{Leaving, Maker, NetOutside, send_all, stock};
 use child_book::{Blank, Book, Ledger, Share};
 use host_base::{Limits, NoMemory, Site};
 use host_trace::EnterFault;
@@ -191,7 +191,7 @@ impl<M: Maker, L: Ledger, R: Wait + Copy + Drop> NetWorld<M, L, R> {
 impl<M: Maker, L: Ledger, R: Wait + Copy + Drop> NetWorld<M, L, R> {
     ghost use Rattle.std.specs.Prelude.{◌≡◌, ◌≤◌, ◌+◌, IfOk, OnOk, OnErr, All, vec_len};
     ghost use Rattle.host_base.specs.Outsides.{Rose};
-    ghost use Rattle.edge_loop.specs.Loops.{IsFresh};
+    ghost use Rattle.edge_loop.specs.Loops.{IsFresh, IsSent};
 
     /// Gives one outside for each loop, at the address of a site. It fails where the address can't be taken, where
     /// more loops are asked for than the ledger has parts, and where another number of children may run than in the
@@ -216,9 +216,37 @@ impl<M: Maker, L: Ledger, R: Wait + Copy + Drop> NetWorld<M, L, R> {
         entered
     }
 
-    /// Takes outsides back. Their children are ended, their tickets are spent, and what they have not sent is sent.
+    /// Sends what is unsent of loops that are over, beside each other. Each may be one of several kinds.
+    pub fn send_all<E: Leaving>(&self, outs: &mut [E])
+        ensures halted { All E.is_halted outs.old → All E.is_halted outs.new }
+        ensures sent { All E.is_sent outs.new }
+    {
+        send_all(&self.rt, outs);
+    }
+
+    /// Takes outsides back. First the children of all are ended and their tickets are spent, and then what they have not
+    /// sent is sent, beside each other.
     pub fn leave(&mut self, outs: Vec<NetOutside<M::Ports, M::Spawner, M::Orders, L, R>>)
         requires { vec_len outs ≤ self.old.out }
+        ensures out { self.new.out + vec_len outs ≡ self.old.out }
+        ensures faults { self.new.faults ≡ self.old.faults }
+    {
+        let mut outs = outs;
+        self.end_all(outs.as_mut_slice());
+        self.take_back(outs);
+    }
+
+    fn end_all(&self, outs: &mut [NetOutside<M::Ports, M::Spawner, M::Orders, L, R>])
+        ensures { All IsSent outs.new }
+    {
+        stock::halt_all(outs);
+        self.send_all(outs);
+    }
+
+    // Takes outsides back to whose clients nothing waits to be sent.
+    fn take_back(&mut self, outs: Vec<NetOutside<M::Ports, M::Spawner, M::Orders, L, R>>)
+        requires given { vec_len outs ≤ self.old.out }
+        requires sent { All IsSent outs.items }
         ensures out { self.new.out + vec_len outs ≡ self.old.out }
         ensures faults { self.new.faults ≡ self.old.faults }
     {

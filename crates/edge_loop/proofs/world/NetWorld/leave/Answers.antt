@@ -1,10 +1,7 @@
 use Rattle.std.proofs.Common.{arith}
+use Rattle.edge_loop.proofs.Fresh.{all_written}
 use Rattle.edge_loop.proofs.world.NetWorld.leave.Goals as goal
 
-pub invariant_of-self : goal.invariant_of-self
-invariant_of-self g c =
-    record {
-      parts = omega (arith, c.args.self.now.parts, c.take_back.ensures.parts, c.len.ensures, c.requires);
-      none_runs = c.take_back.ensures.none;
-      none_out = λ h. omega (arith, c.args.self.now.none_out h);
-    }
+pub take_back-requires-clause-sent : goal.take_back-requires-clause-sent
+take_back-requires-clause-sent g c =
+    λ _ _. all_written c.args.outs.len c.args.outs.items c.end_all.new.outs (omega (arith, c.end_all.auto.outs, c.as_mut_slice.ensures.len)) c.end_all.ensures
