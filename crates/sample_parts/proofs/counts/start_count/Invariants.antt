@@ -1,0 +1,11 @@
+-- The count of the items so far.
+use Rattle.std.proofs.Common.{◌≡◌, ◌≤◌, take}
+use Rattle.std.specs.Prelude.{count_by}
+use Rattle.sample_parts.specs.Counts.{is_any_start}
+use Rattle.sample_parts.proofs.counts.start_count.Given as goal
+
+abbrev pub invariant-loop-item : goal.invariant-loop-item
+invariant-loop-item l = record {
+  count : l.count ≡ count_by is_any_start (take l.item-index l.items);
+  few : l.count ≤ l.item-index;
+}

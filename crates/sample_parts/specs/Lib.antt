@@ -1,0 +1,4 @@
+pub mod Plan
+pub mod Listed
+pub mod Counts
+pub mod Fronts
