@@ -1,3 +1,4 @@
 pub mod FrontLaws
 pub mod TextLaws
 pub mod PlanLaws
+pub mod StopLaws
