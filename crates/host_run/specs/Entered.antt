@@ -7,7 +7,7 @@ use Rattle.host_trace.specs.declared.world.Entry.{Entry}
 use Rattle.host_trace.specs.declared.world.Mode.{Mode}
 use Rattle.host_trace.specs.declared.world.Mode.TheVariants.{Once as ModeOnce, Serve as ModeServe}
 use Rattle.host_run.specs.Statuses.{Says}
-use Rattle.host_run.specs.Words.{Form, Does, Help, Version}
+use Rattle.host_run.specs.Words.{Form, Does, Sample, Help, Version}
 use Rattle.host_run.specs.declared.words.Task.TheVariants.{Once, Serve, Check, Upgrade, Explain}
 use Rattle.host_run.specs.declared.top.Status.{Status}
 use Rattle.host_run.specs.declared.top.Status.TheVariants.{Done, Usage, SiteRefused, SiteUnread, WorldRefused, Spent, ReportFault, NoMemory}
@@ -37,6 +37,7 @@ EntersAt stored (Some (Does (Serve loops turns) place)) status before after = En
 EntersAt stored (Some (Does Explain place)) status before after = EntersBy (λ site. Says stored place (Ok site)) ModeOnce 1 status before after
 EntersAt stored (Some (Does Check place)) status before after = after ≡ before
 EntersAt stored (Some (Does Upgrade place)) status before after = after ≡ before
+EntersAt stored (Some (Sample seed count)) status before after = after ≡ before
 EntersAt stored (Some Help) status before after = after ≡ before
 EntersAt stored (Some Version) status before after = after ≡ before
 EntersAt stored None status before after = after ≡ before

@@ -5,7 +5,7 @@ use Rattle.host_base.specs.declared.site.Site.{Site}
 use Rattle.host_trace.specs.declared.items.Item.{Item}
 use Rattle.explain.specs.Explained.{AsksAlone, IsFirstExplained, IsNeverExplained, explanation}
 use Rattle.host_run.specs.Statuses.{Says}
-use Rattle.host_run.specs.Words.{Form, Does, Help, Version}
+use Rattle.host_run.specs.Words.{Form, Does, Sample, Help, Version}
 use Rattle.host_run.specs.declared.words.Task.TheVariants.{Once, Serve, Check, Upgrade, Explain}
 use Rattle.host_run.specs.declared.top.Status.{Status}
 use Rattle.host_run.specs.declared.top.Status.TheVariants.{Done, Usage, SiteRefused, SiteUnread, WorldRefused, Spent, ReportFault, NoMemory}
@@ -73,6 +73,7 @@ ExplainsAt stored (Some (Does Once place)) status given given' put put' = Unit {
 ExplainsAt stored (Some (Does (Serve loops turns) place)) status given given' put put' = Unit {0}
 ExplainsAt stored (Some (Does Check place)) status given given' put put' = Unit {0}
 ExplainsAt stored (Some (Does Upgrade place)) status given given' put put' = Unit {0}
+ExplainsAt stored (Some (Sample seed count)) status given given' put put' = Unit {0}
 ExplainsAt stored (Some Help) status given given' put put' = Unit {0}
 ExplainsAt stored (Some Version) status given given' put put' = Unit {0}
 ExplainsAt stored None status given given' put put' = Unit {0}

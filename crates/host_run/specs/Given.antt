@@ -9,7 +9,7 @@ use Rattle.host_loop.specs.declared.serve.LoopEnd.{LoopEnd}
 use Rattle.host_loop.specs.declared.serve.LoopEnd.TheVariants.{Done as LoopDone, Spent as LoopSpent, NoMemory as LoopNoMemory}
 use Rattle.host_loop.specs.declared.world.WorldEnd.TheVariants.{Ended}
 use Rattle.host_run.specs.Statuses.{Says}
-use Rattle.host_run.specs.Words.{Form, Does, Help, Version}
+use Rattle.host_run.specs.Words.{Form, Does, Sample, Help, Version}
 use Rattle.host_run.specs.declared.words.Task.TheVariants.{Once, Serve, Check, Upgrade, Explain}
 use Rattle.host_run.specs.declared.top.Status.{Status}
 use Rattle.host_run.specs.declared.top.Status.TheVariants.{Done, Usage, SiteRefused, SiteUnread, WorldRefused, Spent, ReportFault, NoMemory}
@@ -44,6 +44,7 @@ GivesAt stored (Some (Does (Serve loops turns) place)) status before after = Giv
 GivesAt stored (Some (Does Check place)) status before after = after ≡ before
 GivesAt stored (Some (Does Upgrade place)) status before after = after ≡ before
 GivesAt stored (Some (Does Explain place)) status before after = Unit {0}
+GivesAt stored (Some (Sample seed count)) status before after = after ≡ before
 GivesAt stored (Some Help) status before after = after ≡ before
 GivesAt stored (Some Version) status before after = after ≡ before
 GivesAt stored None status before after = after ≡ before

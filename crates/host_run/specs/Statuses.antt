@@ -8,7 +8,8 @@ use Rattle.site_file.specs.OneScript.{site_of_one}
 use Rattle.site_file.specs.SiteFile.{site_said}
 use Rattle.site_file.specs.declared.fault.SiteFault.{SiteFault}
 use Rattle.site_file.specs.declared.fault.SiteFault.TheVariants.{NoMemory as NoMemoryForSite}
-use Rattle.host_run.specs.Words.{SitePlace, ByScript, InFile, is_file, Form, Does, Help, Version}
+use Rattle.sample_run.specs.Run.{IsSampleText}
+use Rattle.host_run.specs.Words.{SitePlace, ByScript, InFile, is_file, Form, Does, Sample, Help, Version}
 use Rattle.host_run.specs.declared.report.TheConstants.{HELP, VERSION}
 use Rattle.host_run.specs.declared.top.Status.{Status}
 use Rattle.host_run.specs.declared.top.Status.TheVariants.{Done, Usage, SiteRefused, SiteUnread, WorldRefused, Spent, ReportFault, NoMemory}
@@ -48,6 +49,7 @@ IsReported _ = ⊥
 abbrev pub SitesBy : Option (List Stored) → Option Form → Status → Type 0
 SitesBy stored None status = status ≡ Usage
 SitesBy stored (Some (Does task place)) status = ReadsBy stored place status
+SitesBy stored (Some (Sample seed count)) status = IsReported status
 SitesBy stored (Some Help) status = IsReported status
 SitesBy stored (Some Version) status = IsReported status
 
@@ -104,6 +106,7 @@ ReportsBy stored (Some (Does (Serve loops turns) place)) status before after = a
 ReportsBy stored (Some (Does Check place)) status before after = PutsBy (IsCheckText stored place) status before after
 ReportsBy stored (Some (Does Upgrade place)) status before after = PutsBy (IsUpgradeText stored place) status before after
 ReportsBy stored (Some (Does Explain place)) status before after = Unit {0}
+ReportsBy stored (Some (Sample seed count)) status before after = PutsBy (IsSampleText seed count) status before after
 ReportsBy stored (Some Help) status before after = PutsBy (λ text. text ≡ HELP.now) status before after
 ReportsBy stored (Some Version) status before after = PutsBy (λ text. text ≡ VERSION.now) status before after
 
@@ -123,6 +126,7 @@ InOrder NoMemory store store' world world' report report' = Unit {0}
 -- what a form uses
 abbrev pub reads_store : Option Form → Bool
 reads_store (Some (Does task place)) = is_file place
+reads_store (Some (Sample seed count)) = false
 reads_store (Some Help) = false
 reads_store (Some Version) = false
 reads_store None = false
@@ -133,6 +137,7 @@ enters_world (Some (Does (Serve loops turns) place)) = true
 enters_world (Some (Does Explain place)) = true
 enters_world (Some (Does Check place)) = false
 enters_world (Some (Does Upgrade place)) = false
+enters_world (Some (Sample seed count)) = false
 enters_world (Some Help) = false
 enters_world (Some Version) = false
 enters_world None = false
@@ -143,6 +148,7 @@ writes_report (Some (Does (Serve loops turns) place)) = false
 writes_report (Some (Does Explain place)) = true
 writes_report (Some (Does Check place)) = true
 writes_report (Some (Does Upgrade place)) = true
+writes_report (Some (Sample seed count)) = true
 writes_report (Some Help) = true
 writes_report (Some Version) = true
 writes_report None = false

@@ -24,6 +24,8 @@ pub data SitePlace : Type 0 where
 -- what a command line asks for
 pub data Form : Type 0 where
   Does : Task → SitePlace → Form
+  -- by a seed, so many connections
+  Sample : ℕ → ℕ → Form
   Help : Form
   Version : Form
 
@@ -37,6 +39,7 @@ place_at (At.File name) = InFile name.now
 
 abbrev pub form_at : Command → Form
 form_at (Rust.Does task place) = Does task (place_at place)
+form_at (Rust.Sample seed count) = Sample seed count
 form_at Rust.Help = Help
 form_at Rust.Version = Version
 
@@ -139,10 +142,30 @@ abbrev pub form_of_serve : List ℕ → List ℕ → Option Task → Option Form
 form_of_serve first second task =
     if bytes_eq first (codes "serve") then option_and_then (λ task. option_map (Does task) (place_of second)) task else None
 
+-- a seed: below 2^32
+abbrev pub seed_at : ℕ → Option ℕ
+seed_at number = if nat_lt number (2 ^ 32) then Some number else None
+
+abbrev pub seed_of : List ℕ → Option ℕ
+seed_of word = option_and_then seed_at (number_of word)
+
+-- how many connections a sample has: 1 to 100,000
+abbrev pub count_at : ℕ → Option ℕ
+count_at number = if nat_le 1 number && nat_le number 100000 then Some number else None
+
+abbrev pub count_of : List ℕ → Option ℕ
+count_of word = option_and_then count_at (number_of word)
+
+-- `sample SEED N`
+abbrev pub form_of_sample : List ℕ → List ℕ → List ℕ → Option Form
+form_of_sample first seed count =
+    if bytes_eq first (codes "sample") then option_and_then (λ seed. option_map (Sample seed) (count_of count)) (seed_of seed) else None
+
 -- The form that the words after the program's name have.
 abbrev pub form_of : List (String Global) → Option Form
 form_of (word ∷ []) = form_alone (string_bytes word)
 form_of (first ∷ second ∷ []) = form_of_two (string_bytes first) (string_bytes second)
+form_of (first ∷ seed ∷ count ∷ []) = form_of_sample (string_bytes first) (string_bytes seed) (string_bytes count)
 form_of (first ∷ second ∷ name ∷ number ∷ []) = form_of_serve (string_bytes first) (string_bytes second) (with_one (option_of (string_bytes name) (string_bytes number)))
 form_of (first ∷ second ∷ name ∷ number ∷ name' ∷ number' ∷ []) =
     form_of_serve (string_bytes first) (string_bytes second) (with_two (option_of (string_bytes name) (string_bytes number)) (option_of (string_bytes name') (string_bytes number')))

@@ -2,11 +2,13 @@
 ghost use Rattle.std.specs.Prelude.{◌≡◌, ◌<◌, ◌^◌, Ok, IfOk, sum_by, length, string_bytes};
 ghost use Rattle.host_base.specs.Outsides.{Rose};
 ghost use Rattle.host_base.specs.SiteRules.{HasHosts, IsServed};
+ghost use Rattle.sample_run.specs.Run.{IsSampleText};
 ghost use Rattle.site_file.specs.SiteFile.{IsSaid, site_said};
 ghost use Rattle.host_run.specs.Statuses.{IsReported, PutsBy, check_text, script_count, scripts_len};
 
 use super::top::Status;
 use host_base::{NoMemory, Sink, SinkFault, Site, VHost};
+use sample_run::sample_report;
 use site_file::write_site;
 use std::alloc::Global;
 
@@ -20,6 +22,7 @@ pub const HELP: &str =
   cgihost check SITE           reads the site and says how many scripts it has
   cgihost upgrade SITE         writes the site as a site file of version 2
   cgihost explain SITE         reads one request and says what would be started for it, or how it is refused
+  cgihost sample SEED N        runs N connections in memory, which the number SEED chooses, and says what came of them
   cgihost --help               writes this text
   cgihost --version            writes the version
 
@@ -95,6 +98,18 @@ pub fn upgrade<S: Sink>(alloc: Global, site: &Site, report: &mut S) -> Status
     ensures fault { result ≡ Status.ReportFault → Rose (S.faults report.old) (S.faults report.new) }
 {
     match write_site(alloc, site) {
+        Ok(text) => put(report, text.as_str()),
+        Err(_) => Status::NoMemory,
+    }
+}
+
+/// Reports what came of the connections of a sample.
+pub fn report_sample<S: Sink>(alloc: Global, seed: u64, count: u32, report: &mut S) -> Status
+    ensures status { IsReported result }
+    ensures text { PutsBy (IsSampleText seed count) result (S.written report.old) (S.written report.new) }
+    ensures fault { result ≡ Status.ReportFault → Rose (S.faults report.old) (S.faults report.new) }
+{
+    match sample_report(alloc, seed, count) {
         Ok(text) => put(report, text.as_str()),
         Err(_) => Status::NoMemory,
     }

@@ -10,7 +10,7 @@ ghost use Rattle.host_run.specs.Statuses.{InOrder, ReadsBy, ReportsBy, SitesBy, 
 ghost use Rattle.host_run.specs.Words.{Does, IsTask, form_of, place_at};
 
 use super::explaining::run_explain;
-use super::report::{HELP, VERSION, check, put, upgrade};
+use super::report::{HELP, VERSION, check, put, report_sample, upgrade};
 use super::sites::site_at;
 use super::words::{Command, Place, TURNS, Task, form_of};
 use host_base::{Sink, Site, SiteStore};
@@ -118,6 +118,7 @@ fn run_at<R: Threads + Sync, F: SiteStore, S: Sink, W: World>(
 /// - `check SITE` reports how many scripts the site has, and `upgrade SITE` the site as a version 2 file.
 /// - `explain SITE` asks the client of one connection for its first request and reports what would be started for it, or
 ///   how it would be refused. Nothing is started, and nothing is written to the client.
+/// - `sample SEED N` runs N connections over memory, as the number SEED chooses them, and reports the counts of the run.
 /// - `--help` and `--version` report what they say.
 ///
 /// Threads are started for several loops alone.
@@ -148,6 +149,7 @@ pub fn run<R: Threads + Sync, F: SiteStore, S: Sink, W: World>(
         Some(Command::Does(task, place)) => {
             run_at(rt, alloc, task, &place, store, report, world)
         }
+        Some(Command::Sample { seed, count }) => report_sample(alloc, seed, count, report),
         Some(Command::Help) => put(report, HELP),
         Some(Command::Version) => put(report, VERSION),
         None => Status::Usage,

@@ -2,7 +2,7 @@
 ghost use Rattle.std.specs.Prelude.{◌≡◌, ◌<◌, ◌≤◌, ◌^◌, IfSome, MatchOption, None, Some, option_map};
 ghost use Rattle.std.specs.Char.{is_ascii_digit};
 ghost use Rattle.std.specs.List.{list_all};
-ghost use Rattle.host_run.specs.Words.{IsInRange, IsOption, IsTask, file_of, form_alone, form_at, form_of, form_of_serve, form_of_two, is_number, loops_at, loops_of, number_of, option_of, parts_of, place_at, place_of, place_of_parts, script_of, task_of, turns_at, turns_of, with_one, with_two};
+ghost use Rattle.host_run.specs.Words.{IsInRange, IsOption, IsTask, count_of, file_of, form_alone, form_at, form_of, form_of_sample, form_of_serve, form_of_two, is_number, loops_at, loops_of, number_of, option_of, parts_of, place_at, place_of, place_of_parts, script_of, seed_of, task_of, turns_at, turns_of, with_one, with_two};
 
 use site_file::{is_program, is_script_path};
 
@@ -16,6 +16,12 @@ pub enum Task {
     Upgrade,
     Explain,
 }
+
+// The greatest seed.
+const SEEDS: u64 = u32::MAX as u64;
+
+// The greatest number of connections of a sample.
+const CONNECTIONS: u64 = 100_000;
 
 // The greatest number of loops.
 const LOOPS: u64 = 16;
@@ -43,6 +49,8 @@ pub enum Place<'w> {
 #[derive(Clone, Copy, Debug)]
 pub enum Command<'w> {
     Does(Task, Place<'w>),
+    /// A run over the events of so many connections, by a seed.
+    Sample { seed: u64, count: u32 },
     Help,
     Version,
 }
@@ -220,6 +228,35 @@ fn form_of_serve<'w>(first: &str, second: &'w str, task: Option<Task>) -> Option
     Some(Command::Does(task, place))
 }
 
+fn seed_of(word: &str) -> Option<u64>
+    ensures { result ≡ seed_of word.now }
+{
+    let number = number_of(word)?;
+    if number <= SEEDS { Some(number) } else { None }
+}
+
+fn count_of(word: &str) -> Option<u32>
+    ensures { result ≡ count_of word.now }
+{
+    let number = number_of(word)?;
+    if number >= 1 && number <= CONNECTIONS {
+        Some(number as u32)
+    } else {
+        None
+    }
+}
+
+fn form_of_sample(first: &str, seed: &str, count: &str) -> Option<Command<'static>>
+    ensures { option_map form_at result ≡ form_of_sample first.now seed.now count.now }
+{
+    if first != "sample" {
+        return None;
+    }
+    let seed = seed_of(seed)?;
+    let count = count_of(count)?;
+    Some(Command::Sample { seed, count })
+}
+
 fn form_alone(word: &str) -> Option<Command<'static>>
     ensures { option_map form_at result ≡ form_alone word.now }
 {
@@ -240,6 +277,7 @@ pub fn form_of(words: &[String]) -> Option<Command<'_>>
     match words {
         [word] => form_alone(word.as_str()),
         [first, second] => form_of_two(first.as_str(), second.as_str()),
+        [first, seed, count] => form_of_sample(first.as_str(), seed.as_str(), count.as_str()),
         [first, second, name, number] => {
             let option = option_of(name.as_str(), number.as_str());
             form_of_serve(first.as_str(), second.as_str(), with_one(option))

@@ -1,7 +1,7 @@
 -- The events of a run up to Stop are those of its list that fit.
 use Rattle.std.proofs.Common.{◌≡◌, ℕ, suc, ◌+◌, ◌-◌, Bool, true, false, not, ◌||◌, ◌&&◌, List, [], ◌∷◌, ◌++◌, Option, Some, None, ◌⊎◌, inl, inr, ◌∙◌, refl, sym, ap, subst, append-nil, append_assoc, add-one, arith}
 use Rattle.std.specs.Prelude.{◌==◌, if◌then◌else◌}
-use Rattle.std.proofs.lemmas.Bool.{cases_Bool, or_parts}
+use Rattle.std.proofs.lemmas.Bool.{cases_Bool, cond-false, ne_eqb, or_parts}
 use Rattle.host_trace.specs.declared.items.Act.{Act}
 use Rattle.host_trace.specs.declared.items.Event.{Event}
 use Rattle.host_trace.specs.declared.items.Event.TheVariants.{Accepted, ClientBytes, ClientEof, ClientGone, Wrote, Started, StartFailed, StartFull, ChildBytes, ChildEof, ChildBroken, Took, InputGone, Exited, WsText, WsBinary, WsClosed, WsBad, NoRoom, Tick, Stop}
@@ -75,12 +75,18 @@ heard_count (Out act ∷ T) = heard_count T
 
 at_event : (before : List Item) (event : Event) (rest : List Item) → before_event (heard_count before) (before ++ In event ∷ rest) ≡ before
 at_event [] event rest = refl
-at_event (In x ∷ before) event rest = ap (λ (T : List Item). In x ∷ T) (at_event before event rest)
+at_event (In x ∷ before) event rest =
+    let n = heard_count before in
+    let e : suc n - 1 ≡ n = omega arith in
+    cond-false (suc n == 0) [] (In x ∷ before_event (suc n - 1) (before ++ In event ∷ rest)) (ne_eqb (suc n) 0 (λ h. absurd (omega (arith, h))))
+    ∙ ap (λ (m : ℕ). In x ∷ before_event m (before ++ In event ∷ rest)) e ∙ ap (λ (U : List Item). In x ∷ U) (at_event before event rest)
 at_event (Out act ∷ before) event rest = ap (λ (T : List Item). Out act ∷ T) (at_event before event rest)
 
 count_heard : (before : List Item) (event : Event) → heard_count (before ++ In event ∷ []) ≡ heard_count before + 1
 count_heard [] event = refl
-count_heard (In x ∷ before) event = ap (λ n. suc n) (count_heard before event)
+count_heard (In x ∷ before) event =
+    let more : heard_count (before ++ In event ∷ []) ≡ heard_count before + 1 = count_heard before event in
+    omega arith
 count_heard (Out act ∷ before) event = count_heard before event
 
 count_done : (before : List Item) (act : Act) → heard_count (before ++ Out act ∷ []) ≡ heard_count before

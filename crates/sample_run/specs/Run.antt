@@ -9,6 +9,7 @@ use Rattle.host_trace.specs.Kinds.{is_stop}
 use Rattle.trace_model.specs.Good.{Good}
 use Rattle.host_loop.specs.Served.{IsFirstOver}
 use Rattle.site_file.specs.OneScript.{site_of_one}
+use Rattle.sample_parts.specs.Counts.{sample_text}
 use Rattle.sample_parts.specs.Listed.{sample_events}
 
 -- what stands in a trace before the event of this number, counted from 0
@@ -45,3 +46,9 @@ pub record HasSampleRun (seed count : ℕ) (given : Option (List (List Item))) :
   pub trace : List Item
   pub told : given ≡ Some (trace ∷ [])
   pub run : IsSampleRun seed count trace
+
+-- the text counts a trace of which that is so
+pub record IsSampleText (seed count : ℕ) (text : List ℕ) : Type 0 where
+  pub trace : List Item
+  pub run : IsSampleRun seed count trace
+  pub counts : text ≡ sample_text trace

@@ -3,6 +3,8 @@
 
 mod play;
 mod played;
+mod report;
 mod run;
 
+pub use report::sample_report;
 pub use run::run_sample;
