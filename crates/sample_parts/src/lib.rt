@@ -9,3 +9,6 @@ mod report;
 
 pub use events::sample;
 pub use report::sample_text;
+
+#[cfg(test)]
+mod tests;

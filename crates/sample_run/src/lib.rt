@@ -8,3 +8,6 @@ mod run;
 
 pub use report::sample_report;
 pub use run::run_sample;
+
+#[cfg(test)]
+mod tests;

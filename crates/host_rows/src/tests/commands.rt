@@ -139,7 +139,11 @@ fn sites_that_are_refused(rt: HostRuntime) -> Result<(), Fail> {
 #[test]
 fn reports_that_fail(rt: HostRuntime) -> Result<(), Fail> {
     let alloc = rt.alloc();
-    for (words, len) in [(["check", "two"].as_slice(), 7), (&["--version"], 5)] {
+    for (words, len) in [
+        (["check", "two"].as_slice(), 7),
+        (&["--version"], 5),
+        (&["sample", "0", "1"], 25),
+    ] {
         let came = came_of(&rt, alloc, words, &[0])?;
         assert!(&rt; matches!(came.status, Status::ReportFault), "{words:?}");
         assert_eq!(&rt; came.report.written().len(), len);
@@ -186,11 +190,46 @@ fn the_help_names_what_there_is(rt: HostRuntime) -> Result<(), Fail> {
         "check SITE",
         "upgrade SITE",
         "explain SITE",
+        "sample SEED N",
         "--help",
         "--version",
         "  7  ",
     ] {
         assert!(&rt; text.contains(form), "{form}");
+    }
+    Ok(())
+}
+
+// The world, which can't be entered, is not asked for.
+#[test]
+fn samples_that_are_reported(rt: HostRuntime) -> Result<(), Fail> {
+    let alloc = rt.alloc();
+    let six = b"connections 6\nnone 1\nstatus 404 2\nstatus 502 3\nstarts 4\nreaps 4\n";
+    reports(&rt, alloc, &["sample", "1", "6"], six)?;
+    let one = b"connections 1\nnone 0\nstatus 502 1\nstarts 1\nreaps 0\n";
+    reports(&rt, alloc, &["sample", "0", "1"], one)?;
+    let nine =
+        b"connections 9\nnone 0\nstatus 200 4\nstatus 404 1\nstatus 502 4\nstarts 8\nreaps 5\n";
+    reports(&rt, alloc, &["sample", "4294967295", "9"], nine)
+}
+
+#[test]
+fn words_of_no_sample(rt: HostRuntime) -> Result<(), Fail> {
+    for words in [
+        ["sample"].as_slice(),
+        &["sample", "1"],
+        &["sample", "1", "0"],
+        &["sample", "1", "100001"],
+        &["sample", "4294967296", "1"],
+        &["sample", "-1", "1"],
+        &["sample", "1", "x"],
+        &["sample", "1", "00000000000000000001"],
+        &["sample", "1", "1", "1"],
+        &["samples", "1", "1"],
+    ] {
+        let came = came_of(&rt, rt.alloc(), words, &[])?;
+        assert!(&rt; matches!(came.status, Status::Usage), "{words:?}");
+        assert_eq!(&rt; came.report.written().len(), 0);
     }
     Ok(())
 }

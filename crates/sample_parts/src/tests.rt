@@ -1,0 +1,191 @@
+// Lists and reports as tables.
+use super::{sample, sample_text};
+use host_base::{Bytes, Launch, NoMemory, Pairs, Peer, Text, Texts};
+use host_trace::{Act, Event, Item};
+use std::alloc::Global;
+use std::process::Abort;
+use std::test::Fail;
+
+// The events of seed 1 for six connections, of the kinds 3, 1, 5, 1, 3, 3, a line each.
+const SIX: &str = "Accepted 192.0.2.1
+Accepted 192.0.2.1
+Accepted 192.0.2.1
+Accepted 192.0.2.1
+Accepted 192.0.2.1
+Accepted 192.0.2.1
+ClientBytes 0 GET /s HTTP/1.1|Host: a|Connection: close||
+ClientBytes 1 GET /none HTTP/1.1|Host: a|Connection: close||
+ClientBytes 2 GET /s HTTP/1.1|Host: a|Connection: close||
+ClientBytes 3 GET /none HTTP/1.1|Host: a|Connection: close||
+ClientBytes 4 GET /s HTTP/1.1|Host: a|Connection: close||
+ClientBytes 5 GET /s HTTP/1.1|Host: a|Connection: close||
+Started 0
+Started 1
+Started 2
+Started 3
+ChildBytes 0 Content-Type: text/plain
+ChildBytes 1 Content-Type: text/plain;;hi
+ChildBytes 2 Content-Type: text/plain
+ChildBytes 3 Content-Type: text/plain
+ChildEof 0
+ClientGone 2
+ChildEof 2
+ChildEof 3
+Exited 0
+Exited 1
+Exited 2
+Exited 3
+Stop
+";
+
+// Those of seed 0 for nine, of the kinds 4, 3, 2, 2, 4, 1, 4, 2 and, in a group of its own, 0.
+const NINE: &str = "Accepted 192.0.2.1
+Accepted 192.0.2.1
+Accepted 192.0.2.1
+Accepted 192.0.2.1
+Accepted 192.0.2.1
+Accepted 192.0.2.1
+Accepted 192.0.2.1
+Accepted 192.0.2.1
+ClientBytes 0 GET /s HTTP/1.1|Host: a|Connection: close||
+ClientBytes 1 GET /s HTTP/1.1|Host: a|Connection: close||
+ClientBytes 2 HEAD /s HTTP/1.1|Host: a|Connection: close||
+ClientBytes 3 HEAD /s HTTP/1.1|Host: a|Connection: close||
+ClientBytes 4 GET /s HTTP/1.1|Host: a|Connection: close||
+ClientBytes 5 GET /none HTTP/1.1|Host: a|Connection: close||
+ClientBytes 6 GET /s HTTP/1.1|Host: a|Connection: close||
+ClientBytes 7 HEAD /s HTTP/1.1|Host: a|Connection: close||
+StartFailed 0
+Started 1
+Started 2
+Started 3
+StartFailed 4
+StartFailed 5
+Started 6
+ChildBytes 1 Content-Type: text/plain
+ChildBytes 2 Content-Type: text/plain;;hi
+ChildBytes 3 Content-Type: text/plain;;hi
+ChildBytes 6 Content-Type: text/plain;;hi
+ChildEof 1
+ChildEof 2
+ChildEof 3
+ChildEof 6
+Exited 1
+Exited 2
+Exited 3
+Exited 6
+Accepted 192.0.2.1
+ClientBytes 8 GET /s HTTP/1.1|Host: a|Connection: close||
+Started 7
+ChildBytes 7 Content-Type: text/plain;;hi
+ChildEof 7
+Exited 7
+Stop
+";
+
+// Bytes in one line: `|` for a CRLF, `;` for a line feed within.
+fn shown(alloc: Global, bytes: &[u8]) -> Result<String, Fail> {
+    let text = str::from_utf8(bytes).unwrap_or("(no text)");
+    let text = text.replace(alloc, "\r\n", "|")?;
+    let text = text.as_str().strip_suffix('\n').unwrap_or(text.as_str());
+    Ok(text.replace(alloc, "\n", ";")?)
+}
+
+fn line_of(alloc: Global, event: &Event) -> Result<String, Fail> {
+    Ok(match event {
+        Event::Accepted { peer } => {
+            let peer = peer.0.as_str();
+            format!(in alloc; "Accepted {peer}\n")?
+        }
+        Event::ClientBytes { c, bytes } => {
+            let text = shown(alloc, bytes.as_slice())?;
+            format!(in alloc; "ClientBytes {c} {text}\n")?
+        }
+        Event::ChildBytes { k, bytes } => {
+            let text = shown(alloc, bytes.as_slice())?;
+            format!(in alloc; "ChildBytes {k} {text}\n")?
+        }
+        Event::ClientGone { c } => format!(in alloc; "ClientGone {c}\n")?,
+        Event::Started { k } => format!(in alloc; "Started {k}\n")?,
+        Event::StartFailed { k } => format!(in alloc; "StartFailed {k}\n")?,
+        Event::ChildEof { k } => format!(in alloc; "ChildEof {k}\n")?,
+        Event::Exited { k } => format!(in alloc; "Exited {k}\n")?,
+        Event::Stop => "Stop\n".to_string(alloc)?,
+        _ => "(another event)\n".to_string(alloc)?,
+    })
+}
+
+fn lists(rt: &impl Abort, alloc: Global, seed: u64, count: u32, wanted: &str) -> Result<(), Fail> {
+    let mut lines = String::new(alloc);
+    for event in sample(alloc, seed, count)?.as_slice() {
+        lines.push_str(line_of(alloc, event)?.as_str())?;
+    }
+    assert_eq!(rt; lines.as_str(), wanted, "seed {seed}");
+    Ok(())
+}
+
+#[test]
+fn the_list_of_a_seed(rt: HostRuntime) -> Result<(), Fail> {
+    lists(&rt, rt.alloc(), 1, 6, SIX)?;
+    lists(&rt, rt.alloc(), 0, 9, NINE)?;
+    lists(&rt, rt.alloc(), 65537, 9, NINE)?;
+    lists(&rt, rt.alloc(), 7, 0, "Stop\n")
+}
+
+// ---- reports
+
+// A reply of this code is written to connection c in two pieces.
+fn reply(alloc: Global, c: u64, code: &str, items: &mut Vec<Item>) -> Result<(), NoMemory> {
+    let front = Bytes::from_slice(alloc, b"HTTP/1.1 ")?;
+    items.push(Item::Out(Act::Write { c, bytes: front }))?;
+    let rest = Bytes::from_slice(alloc, code.as_bytes())?;
+    items.push(Item::Out(Act::Write { c, bytes: rest }))?;
+    Ok(())
+}
+
+fn accept(alloc: Global, items: &mut Vec<Item>) -> Result<(), NoMemory> {
+    let peer = Peer(Text::copy_of(alloc, "192.0.2.1")?);
+    items.push(Item::In(Event::Accepted { peer }))?;
+    Ok(())
+}
+
+fn start(alloc: Global, k: u64, items: &mut Vec<Item>) -> Result<(), NoMemory> {
+    let launch = Launch {
+        program: Text::copy_of(alloc, "/bin/cat")?,
+        dir: Text::copy_of(alloc, "/bin")?,
+        args: Texts::new(alloc),
+        env: Pairs::new(alloc),
+    };
+    items.push(Item::Out(Act::Start {
+        k,
+        c: 0,
+        j: 0,
+        hop: 0,
+        launch,
+    }))?;
+    Ok(())
+}
+
+#[test]
+fn the_report_of_a_trace(rt: HostRuntime) -> Result<(), Fail> {
+    let alloc = rt.alloc();
+    let mut items = Vec::new(alloc);
+    for c in 0..7 {
+        accept(alloc, &mut items)?;
+    }
+    for (c, code) in [(5, "502 Bad"), (0, "200 OK"), (2, "404 Not"), (3, "200"), (4, "20")] {
+        reply(alloc, c, code, &mut items)?;
+    }
+    reply(alloc, 7, "200 OK", &mut items)?;
+    start(alloc, 0, &mut items)?;
+    start(alloc, 1, &mut items)?;
+    items.push(Item::In(Event::Exited { k: 1 }))?;
+    items.push(Item::In(Event::Stop))?;
+    let text = sample_text(alloc, items.as_slice())?;
+    let wanted =
+        "connections 7\nnone 2\nstatus 200 2\nstatus 404 1\nstatus 502 1\nstarts 2\nreaps 1\n";
+    assert_eq!(&rt; text.as_str(), wanted);
+    let text = sample_text(alloc, &[])?;
+    assert_eq!(&rt; text.as_str(), "connections 0\nnone 0\nstarts 0\nreaps 0\n");
+    Ok(())
+}
