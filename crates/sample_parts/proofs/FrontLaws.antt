@@ -1,7 +1,6 @@
 -- What a front is lengthened to.
-use Rattle.std.proofs.Common.{◌≡◌, ℕ, ◌+◌, ◌-◌, ◌≤◌, ◌<◌, List, [], ◌∷◌, ◌++◌, ◌∙◌, refl, sym, ap, subst, inl, inr, append-nil, append_assoc, length, take, set, get_or, arith}
+use Rattle.std.proofs.Common.{◌≡◌, ℕ, ◌+◌, ◌-◌, ◌≤◌, ◌<◌, List, [], ◌∷◌, ◌++◌, ◌∙◌, refl, sym, ap, subst, inl, inr, append-nil, length, take, set, get_or, arith}
 use Rattle.std.specs.Prelude.{◌==◌, if◌then◌else◌}
-use Rattle.std.specs.List.{flat_map}
 use Rattle.std.proofs.Math.Seq.{take-append-add}
 use Rattle.std.proofs.lemmas.Bool.{cases_eq, cases_lt, cond-false, eq-eqb, ne_eqb}
 use Rattle.std.proofs.lemmas.List.{get_or-set_other, get_or-set_same, length-append, length-take, length-take-le, take-append-le, take-take, take_all, take_more}
@@ -22,10 +21,10 @@ take_part n xs ys few =
 pub take_front : (n : ℕ) (xs ys : List ℕ) → take n (take n xs ++ ys) ≡ take n (xs ++ ys)
 take_front n xs ys =
     elim (cases_lt (length xs) n) [
-      inl h ↦ ap (λ (zs : List ℕ). take n (zs ++ ys)) (take_all n xs (omega arith))
-    | inr h ↦
-      let l : length (take n xs) ≡ n = length-take-le n xs h in
-      take-append-le n (take n xs) ys (omega arith) ∙ take-take n n xs (omega arith) ∙ sym (take-append-le n xs ys h)
+      | inl h ↦ ap (λ (zs : List ℕ). take n (zs ++ ys)) (take_all n xs (omega arith))
+      | inr h ↦
+          let l : length (take n xs) ≡ n = length-take-le n xs h in
+          take-append-le n (take n xs) ys (omega arith) ∙ take-take n n xs (omega arith) ∙ sym (take-append-le n xs ys h)
     ]
 
 pub take_same : (n : ℕ) (xs ys : List ℕ) → length xs ≤ n → ys ≡ [] → xs ≡ take n (xs ++ ys)
@@ -37,12 +36,12 @@ pub lengthened_at : (fronts : List (List ℕ)) (c : ℕ) (front bytes : List ℕ
     (d : ℕ) → d < length fronts → get_or (set fronts c front) d [] ≡ take 12 (get_or fronts d [] ++ added d)
 lengthened_at fronts c front bytes lt is short added adds d h =
     elim (cases_eq d c) [
-      inl e ↦
-      let whole : added c ≡ bytes = adds c ∙ rw (eq-eqb c c refl) refl in
-      rw (e, get_or-set_same fronts c front [] lt, whole) is
-    | inr n ↦
-      let none : added d ≡ [] = adds d ∙ cond-false (d == c) bytes [] (ne_eqb d c n) in
-      rw (get_or-set_other fronts c d front [] n) (take_same 12 (get_or fronts d []) (added d) (short d h) none)
+      | inl e ↦
+          let whole : added c ≡ bytes = adds c ∙ rw (eq-eqb c c refl) refl in
+          rw (e, get_or-set_same fronts c front [] lt, whole) is
+      | inr n ↦
+          let none : added d ≡ [] = adds d ∙ cond-false (d == c) bytes [] (ne_eqb d c n) in
+          rw (get_or-set_other fronts c d front [] n) (take_same 12 (get_or fronts d []) (added d) (short d h) none)
     ]
 
 -- one item more
@@ -50,8 +49,8 @@ pub front_more : (T : List Item) (i : ℕ) (item : Item) (c : ℕ) (old new : Li
     new ≡ take 12 (old ++ bytes_written c item) → new ≡ take 12 (client_out (take (i + 1) T) c)
 front_more T i item c old new lt at was is =
     let grown : client_out (take (i + 1) T) c ≡ client_out (take i T) c ++ bytes_written c item =
-        ap (λ (U : List Item). client_out U c) (take_more T i item lt) ∙ flat_map-append (bytes_written c) (take i T) (get_or T i item ∷ [])
-        ∙ ap (λ (x : Item). client_out (take i T) c ++ (bytes_written c x ++ [])) (sym at) ∙ ap (λ (xs : List ℕ). client_out (take i T) c ++ xs) (append-nil (bytes_written c item)) in
+    ap (λ (U : List Item). client_out U c) (take_more T i item lt) ∙ flat_map-append (bytes_written c) (take i T) (get_or T i item ∷ [])
+    ∙ ap (λ (x : Item). client_out (take i T) c ++ (bytes_written c x ++ [])) (sym at) ∙ ap (λ (xs : List ℕ). client_out (take i T) c ++ xs) (append-nil (bytes_written c item)) in
     is ∙ ap (λ (xs : List ℕ). take 12 (xs ++ bytes_written c item)) was ∙ take_front 12 (client_out (take i T) c) (bytes_written c item) ∙ ap (λ (xs : List ℕ). take 12 xs) (sym grown)
 
 pub front_short : (old xs : List ℕ) → old ≡ take 12 xs → length old ≤ 12

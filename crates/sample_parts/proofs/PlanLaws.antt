@@ -1,5 +1,5 @@
 -- The plan has so many connections.
-use Rattle.std.proofs.Common.{◌≡◌, ℕ, zero, suc, ◌+◌, ◌∙◌, ◌∷◌, [], refl, ap, arith, length}
+use Rattle.std.proofs.Common.{◌≡◌, ℕ, zero, suc, ◌∷◌, [], refl, arith, length}
 use Rattle.std.proofs.lemmas.List.{length-append}
 use Rattle.sample_parts.specs.Plan.{plan, planned_at}
 

@@ -54,8 +54,8 @@ pub of_fronts_is : (T : List Item) (fronts : List (List ℕ)) → length fronts 
     ((c : ℕ) → c < accepted_count T → slice_index_or fronts c [] ≡ take 12 (client_out T c)) → of_fronts fronts ≡ connections_text T
 of_fronts_is T fronts count each =
     let none : count_below (is_empty_at fronts) (accepted_count T) ≡ none_count T =
-        count_below_same (is_empty_at fronts) (is_unanswered T) (accepted_count T) (λ c h. ap (λ (xs : List ℕ). length xs == 0) (each c h) ∙ none_of_front (client_out T c)) in
+    count_below_same (is_empty_at fronts) (is_unanswered T) (accepted_count T) (λ c h. ap (λ (xs : List ℕ). length xs == 0) (each c h) ∙ none_of_front (client_out T c)) in
     let lines : code_lines (λ code. count_below (has_code_at fronts code) (accepted_count T)) 900 ≡ code_lines (code_count T) 900 =
-        code_lines_same (λ code. count_below (has_code_at fronts code) (accepted_count T)) (code_count T)
-        (λ code. count_below_same (has_code_at fronts code) (has_code T code) (accepted_count T) (λ c h. ap (λ (xs : List ℕ). code_of xs == code) (each c h) ∙ ap (λ n. n == code) (code_of_front (client_out T c)))) 900 in
+    code_lines_same (λ code. count_below (has_code_at fronts code) (accepted_count T)) (code_count T)
+    (λ code. count_below_same (has_code_at fronts code) (has_code T code) (accepted_count T) (λ c h. ap (λ (xs : List ℕ). code_of xs == code) (each c h) ∙ ap (λ n. n == code) (code_of_front (client_out T c)))) 900 in
     rw (count, none, lines) refl

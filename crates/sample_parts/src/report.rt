@@ -11,6 +11,7 @@ use std::alloc::Global;
 
 // The codes that have lines.
 const LEAST: u32 = 100;
+
 const CODES: u32 = 900;
 
 // Adds a line of a word and a count.

@@ -173,7 +173,13 @@ fn the_report_of_a_trace(rt: HostRuntime) -> Result<(), Fail> {
     for c in 0..7 {
         accept(alloc, &mut items)?;
     }
-    for (c, code) in [(5, "502 Bad"), (0, "200 OK"), (2, "404 Not"), (3, "200"), (4, "20")] {
+    for (c, code) in [
+        (5, "502 Bad"),
+        (0, "200 OK"),
+        (2, "404 Not"),
+        (3, "200"),
+        (4, "20"),
+    ] {
         reply(alloc, c, code, &mut items)?;
     }
     reply(alloc, 7, "200 OK", &mut items)?;

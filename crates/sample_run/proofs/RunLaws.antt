@@ -57,12 +57,12 @@ module _ (limit : ℕ) (T : List Item) (number : ℕ) (before : List Item) (at :
       record { rest = rw f (inl (stop, rw (g, alone) refl)) }
   next_is (event ∷ events) (inr (other, last)) =
       elim (cases_Bool (fits limit before event)) [
-        inl f ↦
-        let g : fits limit (before_event number T) event ≡ true = fits_at event true f in
-        record { rest = rw f (inr (other, last, rw g refl)) }
-      | inr f ↦
-        let g : fits limit (before_event number T) event ≡ false = fits_at event false f in
-        record { rest = rw (f, g) ((next_is events last).rest) }
+        | inl f ↦
+            let g : fits limit (before_event number T) event ≡ true = fits_at event true f in
+            record { rest = rw f (inr (other, last, rw g refl)) }
+        | inr f ↦
+            let g : fits limit (before_event number T) event ≡ false = fits_at event false f in
+            record { rest = rw (f, g) ((next_is events last).rest) }
       ]
 
 -- ---- the whole run
@@ -121,9 +121,9 @@ module _ (limit : ℕ) (T : List Item) where
       let rest : events_of items ≡ named limit (before ++ In event ∷ []) items left = cc in
       let is : NextIs limit T number before listed event left = subst (λ (x : Event). NextIs limit T number before listed x left) (sym same) (next_is limit T number before at none listed last) in
       elim (is.rest) [
-        inl stop ↦ rw (stop.0) (sym stop.1)
-      | inr other ↦
-        let more : heard_to_stop items ≡ fitting limit T (heard_count (before ++ In event ∷ [])) left =
+        | inl stop ↦ rw (stop.0) (sym stop.1)
+        | inr other ↦
+            let more : heard_to_stop items ≡ fitting limit T (heard_count (before ++ In event ∷ [])) left =
             run_is (before ++ In event ∷ []) items left (whole ∙ sym (append_assoc before (In event ∷ []) items)) (not_stopped before (In event) none other.0) (stopped_later (In event) items other.0 all) other.1 rest in
-        rw (other.0) (ap (λ (es : List Event). event ∷ es) (more ∙ ap (λ n. fitting limit T n left) (count_heard before event)) ∙ sym other.2)
+            rw (other.0) (ap (λ (es : List Event). event ∷ es) (more ∙ ap (λ n. fitting limit T n left) (count_heard before event)) ∙ sym other.2)
       ]

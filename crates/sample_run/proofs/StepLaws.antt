@@ -40,11 +40,11 @@ module _ (limit : ℕ) (events : List Event) (old new : MemoryOutside) (takes : 
       let was = h.was in
       let o = told_is old.telling.tells old.wild (items_of old) was h.told in
       let e : event ≡ next_event false limit was (left_after limit [] was events) =
-          named_by limit events was old.wild old.limit (items_of old) (listed_of old) event o.1 same o.0 (leaves was h.told) is in
+      named_by limit events was old.wild old.limit (items_of old) (listed_of old) event o.1 same o.0 (leaves was h.told) is in
       let l : listed_of new ≡ left_listed false limit was (left_after limit [] was events) =
-          left_by limit events was old.wild old.limit (items_of old) (listed_of old) (listed_of new) o.1 same o.0 (leaves was h.told) left in (
+      left_by limit events was old.wild old.limit (items_of old) (listed_of old) (listed_of new) o.1 same o.0 (leaves was h.told) left in (
         ap events_of h.grew ∙ events_of_heard was event ∙ ap (λ (es : List Event). es ++ event ∷ []) (takes was h.told)
-        ∙ ap (λ (x : Event). named limit [] was events ++ x ∷ []) e ∙ sym (named_heard limit [] was events event) ∙ ap (λ (U : List Item). named limit [] U events) (sym h.grew),
+            ∙ ap (λ (x : Event). named limit [] was events ++ x ∷ []) e ∙ sym (named_heard limit [] was events event) ∙ ap (λ (U : List Item). named limit [] U events) (sym h.grew),
         l ∙ sym (left_after_heard limit [] was events event) ∙ ap (λ (U : List Item). left_after limit [] U events) (sym h.grew),
       )
 

@@ -44,7 +44,7 @@ named_heard limit before (In x ∷ items) listed event =
     let more : List Event = left_listed false limit before listed in
     ap (λ (es : List Event). next_event false limit before listed ∷ es)
     (named_heard limit (before ++ In x ∷ []) items more event
-        ∙ ap (λ (T : List Item). named limit (before ++ In x ∷ []) items more ++ next_event false limit T (left_after limit (before ++ In x ∷ []) items more) ∷ []) (shifted before items (In x)))
+    ∙ ap (λ (T : List Item). named limit (before ++ In x ∷ []) items more ++ next_event false limit T (left_after limit (before ++ In x ∷ []) items more) ∷ []) (shifted before items (In x)))
 named_heard limit before (Out a ∷ items) listed event =
     named_heard limit (before ++ Out a ∷ []) items listed event
     ∙ ap (λ (T : List Item). named limit (before ++ Out a ∷ []) items listed ++ next_event false limit T (left_after limit (before ++ Out a ∷ []) items listed) ∷ []) (shifted before items (Out a))

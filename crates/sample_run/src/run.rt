@@ -44,11 +44,7 @@ fn sample_outside(
 }
 
 // Enters a world of one outside, serves it, and gives it back.
-fn play_world(
-    alloc: Global,
-    site: &Site,
-    outside: MemoryOutside,
-) -> Result<MemoryWorld, NoMemory>
+fn play_world(alloc: Global, site: &Site, outside: MemoryOutside) -> Result<MemoryWorld, NoMemory>
     requires served { IsServed site.now }
     requires fresh { items_of outside ≡ [] }
     requires limit { outside.limit ≡ site.now.limits.children }

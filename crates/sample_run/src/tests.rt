@@ -1,6 +1,5 @@
 // Runs of samples, and what is reported of them.
 use super::{run_sample, sample_report};
-use host_base::NoMemory;
 use host_trace::{Act, Event, Item};
 use std::alloc::Global;
 use std::process::Abort;
@@ -12,7 +11,7 @@ fn reports(rt: &impl Abort, alloc: Global, seed: u64, count: u32, text: &str) ->
     Ok(())
 }
 
-// A single connection of each kind but the first; two of all kinds but two; none.
+// Six connections, one whose script can't be started, nine in two groups, and none.
 #[test]
 fn reports_of_small_samples(rt: HostRuntime) -> Result<(), Fail> {
     let alloc = rt.alloc();
@@ -20,33 +19,27 @@ fn reports_of_small_samples(rt: HostRuntime) -> Result<(), Fail> {
     reports(&rt, alloc, 1, 6, head)?;
     let one = "connections 1\nnone 0\nstatus 502 1\nstarts 1\nreaps 0\n";
     reports(&rt, alloc, 0, 1, one)?;
-    let nine = "connections 9\nnone 0\nstatus 200 4\nstatus 404 1\nstatus 502 4\nstarts 8\nreaps 5\n";
+    let nine =
+        "connections 9\nnone 0\nstatus 200 4\nstatus 404 1\nstatus 502 4\nstarts 8\nreaps 5\n";
     reports(&rt, alloc, 0, 9, nine)?;
     let none = "connections 0\nnone 0\nstarts 0\nreaps 0\n";
     reports(&rt, alloc, 0, 0, none)
 }
 
-// How many events a world's one trace has, without Stop and what the outside adds after it.
+// How many events come before Stop.
 fn heard(items: &[Item]) -> usize {
-    let mut count = 0;
-    for item in items {
-        match item {
-            Item::In(Event::Stop) => return count,
-            Item::In(_) => count += 1,
-            Item::Out(_) => {}
-        }
-    }
-    count
+    items
+        .iter()
+        .take_while(|item| !matches!(*item, Item::In(Event::Stop)))
+        .filter(|item| matches!(**item, Item::In(_)))
+        .count()
 }
 
 fn shuts(items: &[Item]) -> usize {
-    let mut count = 0;
-    for item in items {
-        if let Item::Out(Act::Shut { .. }) = item {
-            count += 1;
-        }
-    }
-    count
+    items
+        .iter()
+        .filter(|item| matches!(**item, Item::Out(Act::Shut { .. })))
+        .count()
 }
 
 // Every event of the list fits, and each connection is shut.

@@ -1,6 +1,6 @@
 -- Each front goes on with what the item writes.
-use Rattle.std.proofs.Common.{◌≡◌, ℕ, ◌<◌, [], ◌∙◌, arith, length}
-use Rattle.std.specs.Prelude.{slice_index_or, vec_len}
+use Rattle.std.proofs.Common.{[], ◌∙◌, arith}
+use Rattle.std.specs.Prelude.{slice_index_or}
 use Rattle.sample_parts.proofs.FrontLaws.{front_more, front_short}
 use Rattle.sample_parts.proofs.fronts.fronts_of.Goals as goal
 

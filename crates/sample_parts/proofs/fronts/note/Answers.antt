@@ -1,5 +1,5 @@
 -- The front of the connection that is written to is lengthened, and no other.
-use Rattle.std.proofs.Common.{◌≡◌, ℕ, ◌<◌, [], ◌∙◌, refl, sym, arith, length}
+use Rattle.std.proofs.Common.{◌≡◌, ◌<◌, [], ◌∙◌, refl, arith, length}
 use Rattle.std.specs.Prelude.{slice_index_or}
 use Rattle.std.proofs.lemmas.List.{get_or_read}
 use Rattle.std.proofs.lemmas.Result.{on_ok_weaker}
