@@ -1,8 +1,7 @@
 -- A world that was given its one outside.
-use Rattle.std.proofs.Common.{◌≡◌, ℕ, Bool, true, false, List, [], ◌∷◌, ◌++◌, Option, Some, None, ◌∙◌, refl, sym, ap, subst, map}
+use Rattle.std.proofs.Common.{◌≡◌, Bool, true, false, List, [], ◌∷◌, ◌++◌, Option, Some, None, ◌∙◌, refl, sym, ap, subst, map}
 use Rattle.std.specs.Prelude.{if◌then◌else◌}
 use Rattle.host_base.specs.declared.site.Site.{Site}
-use Rattle.host_trace.specs.declared.items.Event.{Event}
 use Rattle.host_trace.specs.declared.items.Item.{Item}
 use Rattle.host_trace.specs.Told.{Joins}
 use Rattle.host_loop.specs.declared.serve.LoopEnd.{LoopEnd}

@@ -1,9 +1,8 @@
 -- The one outside came out, was served and was given back.
-use Rattle.std.proofs.Common.{◌≡◌, true, List, [], ◌∷◌, ◌∙◌, Some, refl, sym, ap}
+use Rattle.std.proofs.Common.{◌≡◌, true, [], ◌∷◌, ◌∙◌, Some, refl, sym, ap}
 use Rattle.std.specs.List.{list_all}
 use Rattle.memory_world.specs.MemoryWords.{tells_of}
 use Rattle.memory_world.specs.WorldWords.{given_of_world}
-use Rattle.memory_world.specs.declared.outside.MemoryOutside.{MemoryOutside}
 use Rattle.sample_run.proofs.WorldLaws.{played_world}
 use Rattle.sample_run.proofs.run.play_world.Goals as goal
 
