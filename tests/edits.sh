@@ -7,9 +7,8 @@ root=$(cd "$(dirname "$0")/.." && pwd)
 room=$(mktemp -d)
 trap 'rm -rf "$room"' EXIT
 (cd "$root" && tar -c --exclude=out crates crates.txt HANDLES) | tar -x -C "$room"
-for crate in "$root"/crates/*/; do
-  mkdir -p "$crate/out"
-  ln -s "$crate/out" "$room/crates/$(basename "$crate")/out"
+for out in "$root"/crates/*/out; do
+  [ ! -d "$out" ] || cp -a "$out" "$room/crates/$(basename "$(dirname "$out")")/"
 done
 [ $# -gt 0 ] || set -- $(cd "$root/tests/edits" && ls)
 failed=0

@@ -18,7 +18,7 @@ ghost use Rattle.reply_writer.specs.WholeRules.{IsStamp};
 
 mod counter;
 
-use conn_core::{Conn, step};
+use conn_core::{Conn, Onward, step};
 use counter::Counter;
 use host_base::{Bytes, NoMemory, Peer, Site, Text};
 use host_trace::Event;
@@ -132,7 +132,10 @@ fn drive(alloc: Global, site: &Site, events: Vec<Event>) -> Counter
     let mut out = Counter { wrote: 0, fed: 0, shut: 0 };
     let mut children = 0u64;
     for event in events {
-        let _onward = step(&mut conn, event, no_clock(), &mut children, &mut out);
+        match step(&mut conn, event, no_clock(), &mut children, &mut out) {
+            Onward::Http => {}
+            Onward::Talk(_) | Onward::Shut => return out,
+        }
     }
     out
 }

@@ -1,5 +1,5 @@
 # Sourced by the benchmarks beside it: a folder of their own, with copies of the crates that the measured program stands
-# on and those below them, in which `rt` builds it. Nothing is left in it but what the crates' own files say.
+# on and those below them, in which `rt` builds it. What was proved and built of them before is taken along.
 #
 #     . "$(dirname "$0")/crates.sh"
 #     copy_crates body_speed 'host_base request_reader'
@@ -37,6 +37,7 @@ copy_crates() {
         grep "^$crate[: ]" "$top/crates.txt"
         mkdir "$folder/crates/$crate"
         (cd "$top/crates/$crate" && tar cf - --exclude=./out --exclude=./must-fail .) | (cd "$folder/crates/$crate" && tar xf -)
+        [ ! -d "$top/crates/$crate/out/rlib" ] || { mkdir "$folder/crates/$crate/out" && cp -a "$top/crates/$crate/out/rlib" "$folder/crates/$crate/out/"; }
     done >"$folder/crates.txt"
     echo "$1: $2" >>"$folder/crates.txt"
 }
