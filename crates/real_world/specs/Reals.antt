@@ -1,5 +1,5 @@
 -- What the outside of a loop of the real world tells.
-use Rattle.std.specs.Prelude.{ℕ, List, Option, None}
+use Rattle.std.specs.Prelude.{ℕ, ◌≡◌, List, [], Option, None}
 use Rattle.host_trace.specs.declared.items.Event.{Event}
 use Rattle.host_trace.specs.declared.items.Act.{Act}
 use Rattle.host_trace.specs.declared.items.Item.{Item}
@@ -45,6 +45,16 @@ module _ {K : Type 0} where
   IsEntered ForOne (Once o) = once.IsFresh o
   IsEntered ForLoops (Serve o) = loops.IsFresh o
   IsEntered _ _ = ⊥
+
+  -- it has no child, and takes no further client
+  abbrev pub IsHalted : Either (OnceState K) (LoopState K) → Type 0
+  IsHalted (Once o) = o.rows ≡ []
+  IsHalted (Serve o) = loops.IsHalted o
+
+  -- What was written to its clients was sent or given up. What is written to standard output is gone at once.
+  abbrev pub IsSent : Either (OnceState K) (LoopState K) → Type 0
+  IsSent (Once o) = Unit {0}
+  IsSent (Serve o) = loops.IsSent o
 
 module _ {R T : Type 0} where
   -- the event is owed, by what each says of that

@@ -2,6 +2,7 @@
 ghost use Rattle.std.specs.Prelude.{◌≡◌, ◌≤◌, ◌+◌, IfOk, OnOk, OnErr, All, vec_len};
 ghost use Rattle.host_base.specs.Outsides.{Rose};
 
+use super::leaving::halt_all;
 use super::sides::{put_loops, put_once};
 use super::{Either, RealOutside};
 use child_book::Ledger;
@@ -62,7 +63,7 @@ impl<
 > RealWorld<R, T, K, L> {
     ghost use Rattle.std.specs.Prelude.{◌≡◌, ◌≤◌, ◌<◌, ◌+◌, IfOk, OnOk, OnErr, All, vec_len, vec_capacity};
     ghost use Rattle.host_base.specs.Outsides.{Rose};
-    ghost use Rattle.real_world.specs.Reals.{limit_of, IsEntered};
+    ghost use Rattle.real_world.specs.Reals.{limit_of, IsEntered, IsHalted, IsSent};
 
     // Gives out the one outside over standard input.
     fn enter_once(&mut self, site: &Site) -> Result<Vec<RealOutside<R, T, K, L>>, EnterFault>
@@ -114,6 +115,15 @@ impl<
             Either::Once(mut outside) => outside.end(),
             Either::Serve(outside) => self.net.take_one(outside),
         }
+    }
+
+    // Ends the children of all, and then sends what is unsent of any beside the others.
+    fn end_all(&self, outs: &mut [RealOutside<R, T, K, L>])
+        ensures halted { All IsHalted outs.new }
+        ensures sent { All IsSent outs.new }
+    {
+        halt_all(outs);
+        self.net.send_all(outs);
     }
 
     fn enter_in(
@@ -205,6 +215,8 @@ impl<
         ensures faults { self.old.faults ≤ self.new.faults }
     {
         self.out -= outs.len() as u64;
+        let mut outs = outs;
+        self.end_all(outs.as_mut_slice());
         let mut outs = outs.into_iter();
         while let Some(out) = outs.next() {
             self.take_back(out);
