@@ -278,6 +278,7 @@ invariant-loop g l =
     × AllSound kid_tells l.set.rows.items
 END_OF_PROOF
 (cd "$speed" && rt run) >/dev/null 2>"$folder/log" || { tail -n 30 "$folder/log"; exit 1; }
+. "$top/tests/bench/awake.sh"
 # What is measured goes before all other work from here on, where the system allows that.
 chrt -f -p 10 $$ >/dev/null 2>&1 || true
 "$speed/out/children_speed" >"$folder/out"

@@ -4,7 +4,8 @@
 # aim is 1.0 times or less at the tenth percentile.
 set -eu
 export LC_ALL=C
-program=${CGIHOST:-$(cd "$(dirname "$0")/../.." && pwd)/crates/cgihost/out/cgihost}
+top=$(cd "$(dirname "$0")/../.." && pwd)
+program=${CGIHOST:-$top/crates/cgihost/out/cgihost}
 runs=${RUNS:-400}
 folder=$(mktemp -d)
 trap 'rm -rf "$folder"' EXIT
@@ -26,6 +27,7 @@ timed() {
     echo $((${EPOCHREALTIME/./} - begun)) >>"$1"
 }
 
+. "$top/tests/bench/awake.sh"
 # What is measured goes before all other work from here on, where the system allows that.
 chrt -f -p 10 $$ >/dev/null 2>&1 || true
 for _ in 1 2 3 4 5 6 7 8 9 10; do

@@ -106,6 +106,7 @@ END_OF_PROGRAM
 (cd "$speed" && rt run </dev/null) >"$folder/out" 2>"$folder/log" || { tail -n 30 "$folder/log"; exit 1; }
 pump=$speed/out/pump_speed
 size=2147483648
+. "$top/tests/bench/awake.sh"
 # What is measured goes before all other work from here on, where the system allows that.
 chrt -f -p 10 $$ >/dev/null 2>&1 || true
 

@@ -133,6 +133,7 @@ END
 chmod +x clock
 printf 'wrk.method = "POST"\nwrk.body = string.rep("x", 1048576)\n' >post.lua
 
+. "$root/tests/bench/awake.sh"
 # With FIRST all that is measured goes before other work from here on, where the system allows that.
 [ -z "${FIRST:-}" ] || chrt -f -p 10 $$ >/dev/null 2>&1 || true
 
