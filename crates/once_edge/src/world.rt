@@ -18,8 +18,9 @@ use std_spawner::{StandardInput, StartThread, StdSpawner};
 // How many bytes the ring of standard input has room for.
 const RING: usize = 65_536;
 
-// How many threads are kept that have nothing to do. A child has two.
-const IDLE: usize = 2;
+// How many threads are kept that have nothing to do. The end of the program waits longer for one that sleeps than
+// another takes to be made, and most connections have one request.
+const IDLE: usize = 0;
 
 /// One connection over standard input and a sink, whose children are programs of the system.
 pub type RealOutside<R, T, K> = OnceOutside<R, StdSpawner<R, T>, StandardInput, K>;
@@ -225,6 +226,19 @@ impl<
     }
 }
 
+// Kills and reaps what is left of the children of each.
+fn end_all<
+    R: Processes<Started = SystemProcess> + Wait + Clock + Copy + Drop + 'static,
+    T: StartThread + Drop,
+    K: Sink + Drop,
+>(
+    outs: Vec<RealOutside<R, T, K>>,
+) {
+    for mut outside in outs {
+        outside.end();
+    }
+}
+
 impl<R, T, K> OnceWorld<R, T, K> {
     ghost use Rattle.std.specs.Prelude.{◌≡◌, ◌≤◌};
     ghost use Rattle.host_base.specs.Outsides.{Rose};
@@ -298,8 +312,6 @@ impl<
         ensures faults { self.old.faults ≤ self.new.faults }
     {
         self.out -= outs.len() as u64;
-        for mut outside in outs {
-            outside.end();
-        }
+        end_all(outs);
     }
 }

@@ -25,7 +25,8 @@ pub struct StdKid<R, T> {
     threads: ThreadPool<T>,
     program: Program,
     output: OutPump<ChildOutput>,
-    output_thread: Busy<PumpJob>,
+    /// Until its pump has ended.
+    output_thread: Option<Busy<PumpJob>>,
     /// The ring that the pump of its input was given.
     feed: Snapshot<FeedRing>,
     input: Input,
@@ -83,6 +84,7 @@ impl<R: Wait + Clock, T: StartThread + Drop> Kid for StdKid<R, T> {
         }
         self.out_end = Some(done.end);
         self.pace.leave();
+        self.rest_output();
         Some(done)
     }
 
@@ -163,7 +165,7 @@ impl<R, T> StdKid<R, T> {
             threads,
             program,
             output,
-            output_thread,
+            output_thread: Some(output_thread),
             feed,
             input,
             out_end: None,
@@ -180,9 +182,18 @@ impl<R, T> StdKid<R, T> {
 }
 
 impl<R: Wait, T: StartThread + Drop> StdKid<R, T> {
-    ghost use Rattle.std.specs.Prelude.{IfSome};
+    ghost use Rattle.std.specs.Prelude.{◌≡◌, IfSome};
     ghost use Rattle.std_spawner.specs.Kids.{SameButInput};
     ghost use Rattle.std_spawner.specs.Inputs.{IsInputEnd};
+
+    // Gives the thread of its output back, whose pump has ended.
+    fn rest_output(&mut self)
+        ensures { self.new ≡ record self.old { output_thread = self.new.output_thread } }
+    {
+        if let Some(thread) = self.output_thread.take() {
+            give_one(&self.rt, &self.threads, thread.worker());
+        }
+    }
 
     // Looks at the pump of its input. That no thread was to be had for it is counted.
     #[tactic(auto, using(crate::proofs::Given::input_end_if))]
@@ -224,10 +235,10 @@ impl<R: Wait + Clock + Drop, T: StartThread + Drop> StdKid<R, T> {
             threads,
             program: _,
             output: _,
-            output_thread,
+            output_thread: _,
             feed: _,
             input,
-            out_end,
+            out_end: _,
             in_end: _,
             pace: _,
             reaped: _,
@@ -237,9 +248,6 @@ impl<R: Wait + Clock + Drop, T: StartThread + Drop> StdKid<R, T> {
             in_looks: _,
             reap_looks: _,
         } = kid;
-        if out_end.is_some() {
-            give_one(&rt, &threads, output_thread.worker());
-        }
         give_one(&rt, &threads, input.into_worker());
     }
 }
