@@ -231,9 +231,7 @@ fn end_all<
     R: Processes<Started = SystemProcess> + Wait + Clock + Copy + Drop + 'static,
     T: StartThread + Drop,
     K: Sink + Drop,
->(
-    outs: Vec<RealOutside<R, T, K>>,
-) {
+>(outs: Vec<RealOutside<R, T, K>>) {
     for mut outside in outs {
         outside.end();
     }
