@@ -16,6 +16,7 @@ mod play;
 mod replies;
 mod requests;
 mod run;
+mod script;
 mod stops;
 mod talk_ends;
 mod talks;

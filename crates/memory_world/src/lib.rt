@@ -24,6 +24,3 @@ pub use outside::MemoryOutside;
 pub use sink::MemorySink;
 pub use store::{MemoryStore, StoredFile};
 pub use world::MemoryWorld;
-
-#[cfg(test)]
-mod tests;

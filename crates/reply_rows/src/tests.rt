@@ -1,4 +1,5 @@
 // What is read of an output and written of it, part by part.
+mod cells;
 mod derived;
 mod headers;
 mod messages;

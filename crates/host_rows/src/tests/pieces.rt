@@ -2,7 +2,8 @@
 ghost use Rattle.std.specs.Prelude.{◌<◌, length};
 
 use super::drive::{Heard, runs, world_of};
-use super::lines::given;
+use super::lines::{given, shown};
+use super::script::bytes_of;
 use super::texts::{OUTPUT, REQUEST};
 use host_base::NoMemory;
 use host_run::Status;
@@ -28,6 +29,39 @@ pub enum Wanted<'t> {
     Served(&'t [u8]),
     /// The same, and the connection stays open until Stop.
     Open(&'t [u8]),
+}
+
+/// What is to come of an exchange, by the text of a table.
+#[derive(Drop)]
+pub struct Due {
+    word: Vec<u8>,
+    reply: Vec<u8>,
+}
+
+impl Due {
+    pub fn wanted(&self) -> Wanted<'_> {
+        let reply = self.reply.as_slice();
+        match shown(self.word.as_slice()) {
+            "Nothing" => Wanted::Nothing,
+            "Refused" => Wanted::Refused(reply),
+            "Served" => Wanted::Served(reply),
+            "Open" => Wanted::Open(reply),
+            // This comes of none.
+            _ => Wanted::Refused(b"no such word"),
+        }
+    }
+}
+
+/// What is to come, as a text of a table says: `Nothing`, or one of the other words and the reply.
+pub fn due_of(alloc: Global, table: &str, text: &str) -> Result<Due, NoMemory> {
+    let text = bytes_of(alloc, table, text)?;
+    let (word, reply) = shown(text.as_slice())
+        .split_once(' ')
+        .unwrap_or((shown(text.as_slice()), ""));
+    Ok(Due {
+        word: Vec::from_slice(alloc, word.as_bytes())?,
+        reply: Vec::from_slice(alloc, reply.as_bytes())?,
+    })
 }
 
 // What was written to the client, how many children were to be started, and why the connection was shut.

@@ -1,6 +1,7 @@
 // Worked rows: what is heard, and the acts that are to follow each event.
 use super::drive::{Heard, count_of, event_of, limit_of, runs, world_with};
-use super::lines::{event_line, numbered, push_act, push_event, told};
+use super::lines::{event_line, numbered, push_act, push_event, shown, told};
+use super::script::{beats_named, bytes_of, heard_of, is_event, words_of};
 use host_base::NoMemory;
 use host_run::Status;
 use host_trace::{Event, Events};
@@ -9,17 +10,8 @@ use std::process::Abort;
 use std::test::Fail;
 use std::thread::Threads;
 
-/// What is heard, and the acts that follow.
-pub type Beat = (Heard<'static>, &'static [&'static str]);
-
-/// The act of this place finds no room.
-pub const NO_ROOM: &str = "no room";
-
-/// A row of beats, in parts that stand one after the other.
-pub struct Row {
-    pub name: &'static str,
-    pub parts: &'static [&'static [Beat]],
-}
+// The act of this place finds no room.
+const NO_ROOM: &str = "no room";
 
 /// What is to be heard, the acts that find no room, and the lines of the trace.
 #[derive(Drop)]
@@ -88,16 +80,70 @@ impl Play {
         Ok(())
     }
 
-    pub fn beats(&mut self, beats: &[Beat]) -> Result<(), NoMemory> {
-        for (heard, acts) in beats.iter() {
-            self.beat(*heard, acts)?;
+    /// The event of a line of this table is heard.
+    pub fn hear_line(&mut self, table: &str, line: &str) -> Result<(), NoMemory> {
+        let words = words_of(self.alloc, table, line)?;
+        match heard_of(&words) {
+            Some(heard) => self.hear(heard),
+            None => push_event(&mut self.lines, "no event of this name"),
+        }
+    }
+
+    // The event or the act of a line of this table.
+    fn line(&mut self, table: &str, line: &str) -> Result<(), NoMemory> {
+        if let Some(act) = line.strip_prefix("    ") {
+            let bytes = bytes_of(self.alloc, table, act)?;
+            self.follow(shown(bytes.as_slice()))
+        } else if is_event(line) {
+            self.hear_line(table, line)
+        } else {
+            Ok(())
+        }
+    }
+
+    /// The beats of this name.
+    pub fn beats(&mut self, name: &str) -> Result<(), NoMemory> {
+        for line in beats_named(name).lines() {
+            self.line("", line)?;
         }
         Ok(())
     }
 
-    fn parts(&mut self, parts: &[&[Beat]]) -> Result<(), NoMemory> {
-        for part in parts.iter() {
-            self.beats(part)?;
+    /// The first ones of these beats of a table.
+    pub fn front(&mut self, table: &str, beats: &str, count: usize) -> Result<(), NoMemory> {
+        let mut heard: usize = 0;
+        for line in beats.lines() {
+            if is_event(line) {
+                heard = heard.saturating_add(1);
+            }
+            if heard <= count {
+                self.line(table, line)?;
+            }
+        }
+        Ok(())
+    }
+
+    /// The others.
+    pub fn back(&mut self, table: &str, beats: &str, count: usize) -> Result<(), NoMemory> {
+        let mut heard: usize = 0;
+        for line in beats.lines() {
+            if is_event(line) {
+                heard = heard.saturating_add(1);
+            }
+            if heard > count {
+                self.line(table, line)?;
+            }
+        }
+        Ok(())
+    }
+
+    /// These lines of a table, in which beats may stand by their name.
+    pub fn script(&mut self, table: &str, lines: &str) -> Result<(), NoMemory> {
+        for line in lines.lines() {
+            match line.strip_prefix("+ ") {
+                Some(name) => self.beats(name)?,
+                None => self.line(table, line)?,
+            }
         }
         Ok(())
     }
@@ -161,18 +207,35 @@ pub fn plays<R: Threads + Abort + Sync>(
     Ok(())
 }
 
-/// Each of these rows is played so.
+// The row, which begins with its name, is played so.
+fn has_row<R: Threads + Abort + Sync>(
+    rt: &R,
+    alloc: Global,
+    task: &str,
+    site: &str,
+    table: &str,
+    row: &str,
+) -> Result<(), Fail> {
+    let (name, lines) = row.split_once('\n').unwrap_or((row, ""));
+    let mut play = Play::new(alloc);
+    play.script(table, lines)?;
+    plays(rt, task, site, name, play)
+}
+
+/// Each row of a table of so many is played so.
 pub fn has_rows<R: Threads + Abort + Sync>(
     rt: &R,
     alloc: Global,
     task: &str,
     site: &str,
-    rows: &[Row],
+    table: &str,
+    count: usize,
 ) -> Result<(), Fail> {
-    for row in rows {
-        let mut play = Play::new(alloc);
-        play.parts(row.parts)?;
-        plays(rt, task, site, row.name, play)?;
+    let mut rows: usize = 0;
+    for row in table.split("\n== ").skip(1) {
+        has_row(rt, alloc, task, site, table, row)?;
+        rows = rows.saturating_add(1);
     }
+    assert_eq!(rt; rows, count);
     Ok(())
 }

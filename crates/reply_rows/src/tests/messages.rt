@@ -1,70 +1,44 @@
 // Outputs and their messages, in whatever pieces they come.
+use super::cells::{Cells, rows_of};
 use host_base::{NoMemory, Text, Texts};
 use line_messages::{LineStep, Lines, input_line};
 use std::alloc::Global;
 use std::test::Fail;
 
-// A limit, an output, the messages of its ended lines, and that of what stands behind the last LF; nothing
-// stands there where a line is too long.
-type Case<'a> = (u64, &'a [u8], &'a [&'a str], Option<&'a [&'a str]>);
-
-const OUTPUTS: [Case; 26] = [
-    (8, b"", &[], Some(&[])),
-    (8, b"a\n", &["a"], Some(&[])),
-    (8, b"a\r\n", &["a"], Some(&[])),
-    (8, b"a\r\r\n", &["a\r"], Some(&[])),
-    (8, b"a\rb\n", &["a\rb"], Some(&[])),
-    (8, b"\n\r\n\n", &["", "", ""], Some(&[])),
-    (8, b"a", &[], Some(&["a"])),
-    (8, b"a\r", &[], Some(&["a"])),
-    (8, b"\r", &[], Some(&[""])),
-    (8, b"\r\r", &[], Some(&["\r"])),
-    (8, b"x\r\n\ny", &["x", ""], Some(&["y"])),
-    (8, b"a\0b\n\t \n", &["a\0b", "\t "], Some(&[])),
-    // As long as the limit, and one byte more; a CR counts.
-    (8, b"12345678\n12345678", &["12345678"], Some(&["12345678"])),
-    (8, b"1234567\r\n", &["1234567"], Some(&[])),
-    (8, b"12345678\r\n", &[], None),
-    (8, b"123456789", &[], None),
-    (8, b"a\n\nb\n123456789\nc\n", &["a", "", "b"], None),
-    (1, b"a\nbc\nd", &["a"], None),
-    (0, b"\n\n", &["", ""], Some(&[])),
-    (0, b"\n\r\n", &[""], None),
-    // A text of UTF-8 is itself, however it is cut.
-    (
-        64,
-        b"\xc3\xa9\xe2\x82\xac\xf0\x9f\x98\x80\n",
-        &["\u{e9}\u{20ac}\u{1f600}"],
-        Some(&[]),
-    ),
-    // Sequences that are cut short by an LF, and bytes that begin none.
-    (
-        64,
-        b"\xf0\x9f\x98\n\x80\n\xe2\x82",
-        &["\u{fffd}", "\u{fffd}"],
-        Some(&["\u{fffd}"]),
-    ),
-    (64, b"a\xffb\n", &["a\u{fffd}b"], Some(&[])),
-    // The examples of the Unicode Standard, tables 3-8 to 3-11.
-    (
-        64,
-        b"\xc0\xaf\xe0\x80\xbf\xf0\x81\x82A\n",
-        &["\u{fffd}\u{fffd}\u{fffd}\u{fffd}\u{fffd}\u{fffd}\u{fffd}\u{fffd}A"],
-        Some(&[]),
-    ),
-    (
-        64,
-        b"\xed\xa0\x80\xed\xbf\xbf\xed\xafA\n",
-        &["\u{fffd}\u{fffd}\u{fffd}\u{fffd}\u{fffd}\u{fffd}\u{fffd}\u{fffd}A"],
-        Some(&[]),
-    ),
-    (
-        64,
-        b"\xe1\x80\xe2\xf0\x91\x92\xf1\xbfA\n",
-        &["\u{fffd}\u{fffd}\u{fffd}\u{fffd}A"],
-        Some(&[]),
-    ),
-];
+// A limit, an output, what stands behind its last LF (none; one, with its message; or nothing, since a line is too long), and the
+// messages of its ended lines.
+const OUTPUTS: &str = r"
+8 |  | none |
+8 | a\n | none |  | a
+8 | a\r\n | none |  | a
+8 | a\r\r\n | none |  | a\r
+8 | a\rb\n | none |  | a\rb
+8 | \n\r\n\n | none |  |  |  |
+8 | a | one | a
+8 | a\r | one | a
+8 | \r | one |
+8 | \r\r | one | \r
+8 | x\r\n\ny | one | y | x |
+8 | a\0b\n\t \n | none |  | a\0b | \t\x20
+// As long as the limit, and one byte more; a CR counts.
+8 | 12345678\n12345678 | one | 12345678 | 12345678
+8 | 1234567\r\n | none |  | 1234567
+8 | 12345678\r\n | long |
+8 | 123456789 | long |
+8 | a\n\nb\n123456789\nc\n | long |  | a |  | b
+1 | a\nbc\nd | long |  | a
+0 | \n\n | none |  |  |
+0 | \n\r\n | long |  |
+// A text of UTF-8 is itself, however it is cut.
+64 | \xc3\xa9\xe2\x82\xac\xf0\x9f\x98\x80\n | none |  | \xc3\xa9\xe2\x82\xac\xf0\x9f\x98\x80
+// Sequences that are cut short by an LF, and bytes that begin none.
+64 | \xf0\x9f\x98\n\x80\n\xe2\x82 | one | \xef\xbf\xbd | \xef\xbf\xbd | \xef\xbf\xbd
+64 | a\xffb\n | none |  | a\xef\xbf\xbdb
+// The examples of the Unicode Standard, tables 3-8 to 3-11.
+64 | \xc0\xaf\xe0\x80\xbf\xf0\x81\x82A\n | none |  | \xef\xbf\xbd\xef\xbf\xbd\xef\xbf\xbd\xef\xbf\xbd\xef\xbf\xbd\xef\xbf\xbd\xef\xbf\xbd\xef\xbf\xbdA
+64 | \xed\xa0\x80\xed\xbf\xbf\xed\xafA\n | none |  | \xef\xbf\xbd\xef\xbf\xbd\xef\xbf\xbd\xef\xbf\xbd\xef\xbf\xbd\xef\xbf\xbd\xef\xbf\xbd\xef\xbf\xbdA
+64 | \xe1\x80\xe2\xf0\x91\x92\xf1\xbfA\n | none |  | \xef\xbf\xbd\xef\xbf\xbd\xef\xbf\xbd\xef\xbf\xbdA
+";
 
 // What was heard of an output so far.
 #[derive(Drop)]
@@ -87,25 +61,30 @@ fn hear(heard: &mut Heard, step: LineStep) -> Result<(), NoMemory> {
     Ok(())
 }
 
-fn are(texts: &[Text], words: &[&str]) -> bool {
-    texts.len() == words.len()
-        && texts
-            .iter()
-            .zip(words)
-            .all(|(text, word)| text.as_bytes() == word.as_bytes())
+// Whether the texts are the cells from one on, and no more.
+fn are(texts: &[Text], row: &Cells, from: usize) -> bool {
+    let mut place = from;
+    for text in texts {
+        if text.as_bytes() != row.at(place) {
+            return false;
+        }
+        place = place.saturating_add(1);
+    }
+    place == row.len()
 }
 
-fn are_last(texts: &Texts, last: Option<&[&str]>) -> bool {
-    match last {
-        Some(words) => are(texts.as_slice(), words),
-        None => texts.is_empty(),
+fn are_last(texts: &Texts, row: &Cells) -> bool {
+    match texts.as_slice() {
+        [] => row.is(2, "none") || row.is(2, "long"),
+        [text] => row.is(2, "one") && text.as_bytes() == row.at(3),
+        _ => false,
     }
 }
 
 // Whether an output whose first bytes come in one piece, and the others in pieces of `size`, is read so.
-fn is_read(alloc: Global, case: &Case, cut: usize, size: usize) -> Result<bool, NoMemory> {
-    let (limit, output, messages, last) = *case;
-    let mut lines = Lines::new(alloc, limit);
+fn is_read(alloc: Global, row: &Cells, cut: usize, size: usize) -> Result<bool, NoMemory> {
+    let output = row.at(1);
+    let mut lines = Lines::new(alloc, row.number(0));
     let mut heard = Heard {
         texts: Vec::new(alloc),
         over: false,
@@ -124,15 +103,16 @@ fn is_read(alloc: Global, case: &Case, cut: usize, size: usize) -> Result<bool, 
     let texts = lines.end()?;
     Ok(
         lines.is_ended()
-            && heard.over == last.is_none()
-            && are(heard.texts.as_slice(), messages)
-            && are_last(&texts, last),
+            && heard.over == row.is(2, "long")
+            && are(heard.texts.as_slice(), row, 4)
+            && are_last(&texts, row),
     )
 }
 
-fn is_read_at_every_cut(alloc: Global, case: &Case) -> Result<bool, NoMemory> {
-    for cut in 0..case.1.len() + 1 {
-        if !is_read(alloc, case, cut, case.1.len())? || !is_read(alloc, case, cut, 1)? {
+fn is_read_at_every_cut(alloc: Global, row: &Cells) -> Result<bool, NoMemory> {
+    let len = row.at(1).len();
+    for cut in 0..len + 1 {
+        if !is_read(alloc, row, cut, len)? || !is_read(alloc, row, cut, 1)? {
             return Ok(false);
         }
     }
@@ -141,9 +121,12 @@ fn is_read_at_every_cut(alloc: Global, case: &Case) -> Result<bool, NoMemory> {
 
 #[test]
 fn outputs_are_read_at_every_cut(rt: HostRuntime) -> Result<(), Fail> {
-    for case in OUTPUTS.iter() {
-        let output = case.1;
-        assert!(rt; is_read_at_every_cut(rt.alloc(), case)?, "{output:?}");
+    let alloc = rt.alloc();
+    let rows = rows_of(alloc, OUTPUTS)?;
+    assert_eq!(rt; rows.len(), 26);
+    for row in rows.as_slice() {
+        let cells = Cells::new(alloc, row)?;
+        assert!(rt; is_read_at_every_cut(alloc, &cells)?, "{row}");
     }
     Ok(())
 }

@@ -1,32 +1,15 @@
 // What streams write. Each row is told as it stands; `cuts` tells outputs cut at each place with ticks.
 ghost use Rattle.reply_writer.specs.WholeRules.{IsStamp};
 
-use host_base::{Bytes, Cause, NoMemory, ScriptKind, Version};
+use super::cells::{Cells, rows_of};
+use host_base::{Bytes, NoMemory, ScriptKind, Version};
 use reply_stream::{Asked, Last, Stream};
 use std::alloc::Global;
+use std::test::Fail;
 
 mod cuts;
 mod edges;
 mod long;
-
-// What is told, and what is then written.
-#[derive(Clone, Copy)]
-enum Told {
-    Piece(&'static str, &'static str),
-    Tick(&'static str),
-}
-
-use Told::{Piece, Tick};
-
-// What the output comes to.
-#[derive(Clone, Copy)]
-enum Ended {
-    Rest(&'static str),
-    Hop(&'static str),
-    Bad(Cause),
-}
-
-use Ended::{Bad, Hop, Rest};
 
 const GET: Asked = Asked {
     kind: ScriptKind::Cgi,
@@ -64,332 +47,69 @@ const WS: Asked = Asked {
     head_only: false,
 };
 
-// What is asked, whether the connection closes after the reply, whether it has a Date, what is told, and what
-// the output comes to.
-type Row = (Asked, bool, bool, &'static [Told], Ended);
+// What is asked, whether the connection closes after the reply, whether it has a Date, what is told and what is then written, and
+// what the output comes to.
+const ROWS: &str = r"
+// A tick after the output: in chunks, with the Date of the stamp.
+GET | yes | no | piece | Content-Type: text/plain\n\nhi\n |  | tick | HTTP/1.1 200 OK\r\nContent-Type: text/plain\r\nTransfer-Encoding: chunked\r\nConnection: close\r\n\r\n3\r\nhi\n\r\n | rest | 0\r\n\r\n
+GET | yes | yes | piece | Content-Type: text/plain\n\nhi\n |  | tick | HTTP/1.1 200 OK\r\nContent-Type: text/plain\r\nDate: Sun, 06 Nov 1994 08:49:37 GMT\r\nTransfer-Encoding: chunked\r\nConnection: close\r\n\r\n3\r\nhi\n\r\n | rest | 0\r\n\r\n
+// .. up to the close for HTTP/1.0.
+OLD | yes | no | piece | Content-Type: text/plain\n\nhi\n |  | tick | HTTP/1.1 200 OK\r\nContent-Type: text/plain\r\nConnection: close\r\n\r\nhi\n | piece | more | more | rest |
+// .. and the head alone after HEAD, whatever follows.
+HEAD | yes | no | piece | Content-Type: text/plain\n\nhi\n |  | tick | HTTP/1.1 200 OK\r\nContent-Type: text/plain\r\nConnection: close\r\n\r\n | piece | more |  | rest |
+OLD_HEAD | no | no | piece | Content-Type: text/plain\n\nhi\n |  | tick | HTTP/1.1 200 OK\r\nContent-Type: text/plain\r\n\r\n | piece | more |  | rest |
+// Without a tick the length is told.
+GET | yes | no | piece | Content-Type: text/plain\n\nhi\n |  | rest | HTTP/1.1 200 OK\r\nContent-Type: text/plain\r\nContent-Length: 3\r\nConnection: close\r\n\r\nhi\n
+OLD | yes | yes | piece | Content-Type: text/plain\n\nhi\n |  | rest | HTTP/1.1 200 OK\r\nContent-Type: text/plain\r\nDate: Sun, 06 Nov 1994 08:49:37 GMT\r\nContent-Length: 3\r\nConnection: close\r\n\r\nhi\n
+HEAD | no | no | piece | Content-Type: text/plain\n\nhi\n |  | rest | HTTP/1.1 200 OK\r\nContent-Type: text/plain\r\n\r\n
+// A script's own Date.
+GET | no | yes | piece | Content-Type: a\ndate: then\n\n |  | tick | HTTP/1.1 200 OK\r\nContent-Type: a\r\ndate: then\r\nTransfer-Encoding: chunked\r\n\r\n | rest | 0\r\n\r\n
+// A tick before the header is whole doesn't count; the next one does. An empty body has no chunk.
+GET | no | no | tick |  | piece | Content-Type: text/plain\n |  | tick |  | piece | \n |  | tick | HTTP/1.1 200 OK\r\nContent-Type: text/plain\r\nTransfer-Encoding: chunked\r\n\r\n | tick |  | piece | hi\n | 3\r\nhi\n\r\n | tick |  | piece | 0123456789abcdef | 10\r\n0123456789abcdef\r\n | rest | 0\r\n\r\n
+GET | no | no | piece | Content-Type: text/plain\n |  | tick |  | piece | \nhi\n |  | rest | HTTP/1.1 200 OK\r\nContent-Type: text/plain\r\nContent-Length: 3\r\n\r\nhi\n
+// 204 and 304 have no body and no framing field (RFC 9110 15.3.5 and 15.4.5).
+GET | no | no | piece | Status: 204\n\nhi\n |  | tick | HTTP/1.1 204 No Content\r\n\r\n | piece | more |  | rest |
+OLD | yes | no | piece | Status: 304\n\nhi\n |  | tick | HTTP/1.1 304 Not Modified\r\nConnection: close\r\n\r\n | piece | more |  | rest |
+GET | no | no | piece | Status: 304\n\nhi\n |  | rest | HTTP/1.1 304 Not Modified\r\n\r\n
+// 205 has an empty body (RFC 9110 15.3.6).
+GET | no | no | piece | Status: 205\n\nhi\n |  | tick | HTTP/1.1 205 Reset Content\r\nTransfer-Encoding: chunked\r\n\r\n | piece | more |  | rest | 0\r\n\r\n
+OLD | yes | no | piece | Status: 205\n\nhi\n |  | tick | HTTP/1.1 205 Reset Content\r\nConnection: close\r\n\r\n | piece | more |  | rest |
+GET | no | no | piece | Status: 205\n\nhi\n |  | rest | HTTP/1.1 205 Reset Content\r\nContent-Length: 0\r\n\r\n
+// A script that writes its own reply (RFC 3875 5).
+RAW | yes | yes | piece | HTTP/1.0 200 OK\r\n\r\nx |  | rest | HTTP/1.0 200 OK\r\n\r\nx
+RAW | yes | yes | tick |  | piece | HT |  | tick | HT | tick |  | piece | TP/1.0 200 OK\r\n\r\nx | TP/1.0 200 OK\r\n\r\nx | rest |
+RAW | yes | no | tick |  | bad | NoOutput
+RAW | yes | no | bad | NoOutput
+// A redirect with a document, and one without (RFC 3875 6.2.3 and 6.2.4).
+GET | no | no | piece | Location: http://x/\nContent-Type: a\n\nhi\n |  | tick | HTTP/1.1 302 Found\r\nLocation: http://x/\r\nContent-Type: a\r\nTransfer-Encoding: chunked\r\n\r\n3\r\nhi\n\r\n | rest | 0\r\n\r\n
+GET | no | yes | piece | Location: http://x/\n\nhi\n |  | tick |  | piece | more |  | tick |  | rest | HTTP/1.1 302 Found\r\nLocation: http://x/\r\nDate: Sun, 06 Nov 1994 08:49:37 GMT\r\nContent-Length: 0\r\n\r\n
+// A local redirect (RFC 3875 6.2.2).
+GET | no | no | piece | Location: /x?y\n\nhi\n |  | tick |  | piece | more |  | hop | /x?y
+GET | no | no | piece | Location: /x?y\n\n |  | hop | /x?y
+// What is refused.
+GET | no | no | tick |  | bad | NoOutput
+GET | no | no | piece | Content-Type: a\n |  | tick |  | bad | HeaderIncomplete
+GET | no | no | piece | x\n\n |  | tick |  | piece | y |  | bad | HeaderLine
+GET | no | no | piece | Status: 200\nStatus: 200\n\n |  | tick |  | bad | HeaderRepeated
+GET | no | no | piece | Status: 1\n\n |  | tick |  | bad | BadStatus
+GET | no | no | piece | Location: /a b\n\n |  | tick |  | bad | BadLocation
+GET | no | no | piece | X: y\n\nhi\n |  | tick |  | bad | NoneOfThree
+// The program of a WebSocket gives no reply.
+WS | no | no | piece | Content-Type: a\n\nhi\n |  | tick |  | bad | NoOutput
+HEAD | yes | yes | piece | Location: http://x/\n\nhi\n |  | tick |  | rest | HTTP/1.1 302 Found\r\nLocation: http://x/\r\nDate: Sun, 06 Nov 1994 08:49:37 GMT\r\nConnection: close\r\n\r\n
+";
 
-const ROWS: [Row; 34] = [
-    // A tick after the output: in chunks, with the Date of the stamp.
-    (
-        GET,
-        true,
-        false,
-        &[
-            Piece("Content-Type: text/plain\n\nhi\n", ""),
-            Tick(
-                "HTTP/1.1 200 OK\r\nContent-Type: text/plain\r\nTransfer-Encoding: chunked\r\nConnection: close\r\n\r\n3\r\nhi\n\r\n",
-            ),
-        ],
-        Rest("0\r\n\r\n"),
-    ),
-    (
-        GET,
-        true,
-        true,
-        &[
-            Piece("Content-Type: text/plain\n\nhi\n", ""),
-            Tick(
-                "HTTP/1.1 200 OK\r\nContent-Type: text/plain\r\nDate: Sun, 06 Nov 1994 08:49:37 GMT\r\nTransfer-Encoding: chunked\r\nConnection: close\r\n\r\n3\r\nhi\n\r\n",
-            ),
-        ],
-        Rest("0\r\n\r\n"),
-    ),
-    // .. up to the close for HTTP/1.0.
-    (
-        OLD,
-        true,
-        false,
-        &[
-            Piece("Content-Type: text/plain\n\nhi\n", ""),
-            Tick("HTTP/1.1 200 OK\r\nContent-Type: text/plain\r\nConnection: close\r\n\r\nhi\n"),
-            Piece("more", "more"),
-        ],
-        Rest(""),
-    ),
-    // .. and the head alone after HEAD, whatever follows.
-    (
-        HEAD,
-        true,
-        false,
-        &[
-            Piece("Content-Type: text/plain\n\nhi\n", ""),
-            Tick("HTTP/1.1 200 OK\r\nContent-Type: text/plain\r\nConnection: close\r\n\r\n"),
-            Piece("more", ""),
-        ],
-        Rest(""),
-    ),
-    (
-        OLD_HEAD,
-        false,
-        false,
-        &[
-            Piece("Content-Type: text/plain\n\nhi\n", ""),
-            Tick("HTTP/1.1 200 OK\r\nContent-Type: text/plain\r\n\r\n"),
-            Piece("more", ""),
-        ],
-        Rest(""),
-    ),
-    // Without a tick the length is told.
-    (
-        GET,
-        true,
-        false,
-        &[Piece("Content-Type: text/plain\n\nhi\n", "")],
-        Rest(
-            "HTTP/1.1 200 OK\r\nContent-Type: text/plain\r\nContent-Length: 3\r\nConnection: close\r\n\r\nhi\n",
-        ),
-    ),
-    (
-        OLD,
-        true,
-        true,
-        &[Piece("Content-Type: text/plain\n\nhi\n", "")],
-        Rest(
-            "HTTP/1.1 200 OK\r\nContent-Type: text/plain\r\nDate: Sun, 06 Nov 1994 08:49:37 GMT\r\nContent-Length: 3\r\nConnection: close\r\n\r\nhi\n",
-        ),
-    ),
-    (
-        HEAD,
-        false,
-        false,
-        &[Piece("Content-Type: text/plain\n\nhi\n", "")],
-        Rest("HTTP/1.1 200 OK\r\nContent-Type: text/plain\r\n\r\n"),
-    ),
-    // A script's own Date.
-    (
-        GET,
-        false,
-        true,
-        &[
-            Piece("Content-Type: a\ndate: then\n\n", ""),
-            Tick(
-                "HTTP/1.1 200 OK\r\nContent-Type: a\r\ndate: then\r\nTransfer-Encoding: chunked\r\n\r\n",
-            ),
-        ],
-        Rest("0\r\n\r\n"),
-    ),
-    // A tick before the header is whole doesn't count; the next one does. An empty body has no chunk.
-    (
-        GET,
-        false,
-        false,
-        &[
-            Tick(""),
-            Piece("Content-Type: text/plain\n", ""),
-            Tick(""),
-            Piece("\n", ""),
-            Tick(
-                "HTTP/1.1 200 OK\r\nContent-Type: text/plain\r\nTransfer-Encoding: chunked\r\n\r\n",
-            ),
-            Tick(""),
-            Piece("hi\n", "3\r\nhi\n\r\n"),
-            Tick(""),
-            Piece("0123456789abcdef", "10\r\n0123456789abcdef\r\n"),
-        ],
-        Rest("0\r\n\r\n"),
-    ),
-    (
-        GET,
-        false,
-        false,
-        &[
-            Piece("Content-Type: text/plain\n", ""),
-            Tick(""),
-            Piece("\nhi\n", ""),
-        ],
-        Rest("HTTP/1.1 200 OK\r\nContent-Type: text/plain\r\nContent-Length: 3\r\n\r\nhi\n"),
-    ),
-    // 204 and 304 have no body and no framing field (RFC 9110 15.3.5 and 15.4.5).
-    (
-        GET,
-        false,
-        false,
-        &[
-            Piece("Status: 204\n\nhi\n", ""),
-            Tick("HTTP/1.1 204 No Content\r\n\r\n"),
-            Piece("more", ""),
-        ],
-        Rest(""),
-    ),
-    (
-        OLD,
-        true,
-        false,
-        &[
-            Piece("Status: 304\n\nhi\n", ""),
-            Tick("HTTP/1.1 304 Not Modified\r\nConnection: close\r\n\r\n"),
-            Piece("more", ""),
-        ],
-        Rest(""),
-    ),
-    (
-        GET,
-        false,
-        false,
-        &[Piece("Status: 304\n\nhi\n", "")],
-        Rest("HTTP/1.1 304 Not Modified\r\n\r\n"),
-    ),
-    // 205 has an empty body (RFC 9110 15.3.6).
-    (
-        GET,
-        false,
-        false,
-        &[
-            Piece("Status: 205\n\nhi\n", ""),
-            Tick("HTTP/1.1 205 Reset Content\r\nTransfer-Encoding: chunked\r\n\r\n"),
-            Piece("more", ""),
-        ],
-        Rest("0\r\n\r\n"),
-    ),
-    (
-        OLD,
-        true,
-        false,
-        &[
-            Piece("Status: 205\n\nhi\n", ""),
-            Tick("HTTP/1.1 205 Reset Content\r\nConnection: close\r\n\r\n"),
-            Piece("more", ""),
-        ],
-        Rest(""),
-    ),
-    (
-        GET,
-        false,
-        false,
-        &[Piece("Status: 205\n\nhi\n", "")],
-        Rest("HTTP/1.1 205 Reset Content\r\nContent-Length: 0\r\n\r\n"),
-    ),
-    // A script that writes its own reply (RFC 3875 5).
-    (
-        RAW,
-        true,
-        true,
-        &[Piece("HTTP/1.0 200 OK\r\n\r\nx", "")],
-        Rest("HTTP/1.0 200 OK\r\n\r\nx"),
-    ),
-    (
-        RAW,
-        true,
-        true,
-        &[
-            Tick(""),
-            Piece("HT", ""),
-            Tick("HT"),
-            Tick(""),
-            Piece("TP/1.0 200 OK\r\n\r\nx", "TP/1.0 200 OK\r\n\r\nx"),
-        ],
-        Rest(""),
-    ),
-    (RAW, true, false, &[Tick("")], Bad(Cause::NoOutput)),
-    (RAW, true, false, &[], Bad(Cause::NoOutput)),
-    // A redirect with a document, and one without (RFC 3875 6.2.3 and 6.2.4).
-    (
-        GET,
-        false,
-        false,
-        &[
-            Piece("Location: http://x/\nContent-Type: a\n\nhi\n", ""),
-            Tick(
-                "HTTP/1.1 302 Found\r\nLocation: http://x/\r\nContent-Type: a\r\nTransfer-Encoding: chunked\r\n\r\n3\r\nhi\n\r\n",
-            ),
-        ],
-        Rest("0\r\n\r\n"),
-    ),
-    (
-        GET,
-        false,
-        true,
-        &[
-            Piece("Location: http://x/\n\nhi\n", ""),
-            Tick(""),
-            Piece("more", ""),
-            Tick(""),
-        ],
-        Rest(
-            "HTTP/1.1 302 Found\r\nLocation: http://x/\r\nDate: Sun, 06 Nov 1994 08:49:37 GMT\r\nContent-Length: 0\r\n\r\n",
-        ),
-    ),
-    // A local redirect (RFC 3875 6.2.2).
-    (
-        GET,
-        false,
-        false,
-        &[
-            Piece("Location: /x?y\n\nhi\n", ""),
-            Tick(""),
-            Piece("more", ""),
-        ],
-        Hop("/x?y"),
-    ),
-    (
-        GET,
-        false,
-        false,
-        &[Piece("Location: /x?y\n\n", "")],
-        Hop("/x?y"),
-    ),
-    // What is refused.
-    (GET, false, false, &[Tick("")], Bad(Cause::NoOutput)),
-    (
-        GET,
-        false,
-        false,
-        &[Piece("Content-Type: a\n", ""), Tick("")],
-        Bad(Cause::HeaderIncomplete),
-    ),
-    (
-        GET,
-        false,
-        false,
-        &[Piece("x\n\n", ""), Tick(""), Piece("y", "")],
-        Bad(Cause::HeaderLine),
-    ),
-    (
-        GET,
-        false,
-        false,
-        &[Piece("Status: 200\nStatus: 200\n\n", ""), Tick("")],
-        Bad(Cause::HeaderRepeated),
-    ),
-    (
-        GET,
-        false,
-        false,
-        &[Piece("Status: 1\n\n", ""), Tick("")],
-        Bad(Cause::BadStatus),
-    ),
-    (
-        GET,
-        false,
-        false,
-        &[Piece("Location: /a b\n\n", ""), Tick("")],
-        Bad(Cause::BadLocation),
-    ),
-    (
-        GET,
-        false,
-        false,
-        &[Piece("X: y\n\nhi\n", ""), Tick("")],
-        Bad(Cause::NoneOfThree),
-    ),
-    // The program of a WebSocket gives no reply.
-    (
-        WS,
-        false,
-        false,
-        &[Piece("Content-Type: a\n\nhi\n", ""), Tick("")],
-        Bad(Cause::NoOutput),
-    ),
-    (
-        HEAD,
-        true,
-        true,
-        &[Piece("Location: http://x/\n\nhi\n", ""), Tick("")],
-        Rest(
-            "HTTP/1.1 302 Found\r\nLocation: http://x/\r\nDate: Sun, 06 Nov 1994 08:49:37 GMT\r\nConnection: close\r\n\r\n",
-        ),
-    ),
-];
+// What is asked, by its name; a WebSocket by any other.
+fn asked_of(row: &Cells) -> Asked {
+    match row.text(0) {
+        "GET" => GET,
+        "HEAD" => HEAD,
+        "OLD" => OLD,
+        "OLD_HEAD" => OLD_HEAD,
+        "RAW" => RAW,
+        _ => WS,
+    }
+}
 
 // The example of RFC 9110 5.6.7, or none.
 fn stamp_of(dated: bool) -> Option<u64>
@@ -398,60 +118,92 @@ fn stamp_of(dated: bool) -> Option<u64>
     if dated { Some(784_111_777) } else { None }
 }
 
-fn is_ended(last: &Last, ended: Ended) -> bool {
-    match (last, ended) {
-        (Last::Written(bytes), Rest(text)) => bytes.as_slice() == text.as_bytes(),
-        (Last::Hop(location), Hop(text)) => location.as_slice() == text.as_bytes(),
-        (Last::Bad(cause), Bad(expected)) => *cause == expected,
-        _ => false,
-    }
+// Whether it comes to what two cells say, and they are the last ones.
+fn is_ended(alloc: Global, last: &Last, row: &Cells, place: usize) -> Result<bool, Fail> {
+    let text = place.saturating_add(1);
+    let right = match last {
+        Last::Written(bytes) => row.is(place, "rest") && bytes.as_slice() == row.at(text),
+        Last::Hop(location) => row.is(place, "hop") && location.as_slice() == row.at(text),
+        Last::Bad(cause) => {
+            row.is(place, "bad") && row.is(text, format!(in alloc; "{cause:?}")?.as_str())
+        }
+    };
+    Ok(right && row.len() == place.saturating_add(2))
 }
 
-fn hear(
-    alloc: Global,
-    stream: &mut Stream,
-    piece: &'static str,
+// A row that is told.
+#[derive(Drop)]
+struct Telling {
+    stream: Stream,
     close: bool,
-    dated: bool,
-) -> Result<Bytes, NoMemory> {
-    let piece = Bytes::from_slice(alloc, piece.as_bytes())?;
-    stream.hear(piece, close, stamp_of(dated))
+    stamp: bool,
 }
 
-fn is_text(written: Result<Bytes, NoMemory>, text: &'static str) -> bool {
-    match written {
-        Ok(written) => written.as_slice() == text.as_bytes(),
-        Err(_) => false,
-    }
-}
-
-// Whether it is answered as its row says.
-fn is_told(alloc: Global, stream: &mut Stream, told: &Told, close: bool, dated: bool) -> bool {
-    match told {
-        Piece(piece, text) => is_text(hear(alloc, stream, piece, close, dated), text),
-        Tick(text) => is_text(stream.tick(close, stamp_of(dated)), text),
+impl Telling {
+    // Whether a piece, or a tick, is answered as the cells from one on say; how many cells they are, and none where the output
+    // ends there.
+    fn is_told(
+        &mut self,
+        alloc: Global,
+        row: &Cells,
+        place: usize,
+    ) -> Result<Option<usize>, NoMemory> {
+        let first = place.saturating_add(1);
+        let second = place.saturating_add(2);
+        match row.text(place) {
+            "piece" => {
+                let piece = Bytes::from_slice(alloc, row.at(first))?;
+                let text = self.stream.hear(piece, self.close, stamp_of(self.stamp))?;
+                Ok(if text.as_slice() == row.at(second) {
+                    Some(3)
+                } else {
+                    None
+                })
+            }
+            "tick" => {
+                let text = self.stream.tick(self.close, stamp_of(self.stamp))?;
+                Ok(if text.as_slice() == row.at(first) {
+                    Some(2)
+                } else {
+                    None
+                })
+            }
+            _ => Ok(None),
+        }
     }
 }
 
 // Whether each thing that is told is answered as its row says, and the end too.
-fn is_answered(alloc: Global, row: &Row) -> bool {
-    let mut stream = Stream::new(alloc, row.0);
-    for told in row.3.iter() {
-        if !is_told(alloc, &mut stream, told, row.1, row.2) {
-            return false;
+fn is_answered(alloc: Global, row: &Cells) -> Result<bool, Fail> {
+    let mut telling = Telling {
+        stream: Stream::new(alloc, asked_of(row)),
+        close: row.is_yes(1),
+        stamp: row.is_yes(2),
+    };
+    let mut place: usize = 3;
+    for _ in 0..row.len() {
+        match telling.is_told(alloc, row, place)? {
+            Some(count) => place = place.saturating_add(count),
+            None => break,
         }
     }
-    match stream.end(row.1, stamp_of(row.2)) {
-        Ok(last) => is_ended(&last, row.4),
-        Err(_) => false,
-    }
+    let Telling {
+        stream,
+        close,
+        stamp,
+    } = telling;
+    let last = stream.end(close, stamp_of(stamp))?;
+    is_ended(alloc, &last, row, place)
 }
 
 #[test]
-fn rows(rt: HostRuntime) {
-    let mut number: usize = 0;
-    for row in ROWS.iter() {
-        assert!(&rt; is_answered(rt.alloc(), row), "row {number}");
-        number = number.saturating_add(1);
+fn rows(rt: HostRuntime) -> Result<(), Fail> {
+    let alloc = rt.alloc();
+    let rows = rows_of(alloc, ROWS)?;
+    assert_eq!(rt; rows.len(), 34);
+    for row in rows.as_slice() {
+        let cells = Cells::new(alloc, row)?;
+        assert!(rt; is_answered(alloc, &cells)?, "{row}");
     }
+    Ok(())
 }

@@ -1,94 +1,26 @@
 // Outputs of 8,192 and 8,193 bytes, cut at each place, with a tick at each place: what each call writes.
-use super::long::{Filled, filled};
-use super::{GET, OLD};
+use super::super::cells::{Cells, rows_of};
+use super::long::filled_at;
+use super::{GET, asked_of};
 use host_base::{Bytes, NoMemory};
 use reply_stream::{Asked, Last, Stream};
 use std::alloc::Global;
+use std::test::Fail;
 
-// What is asked, the header, how many bytes follow it, the head of a reply that begins before the end, and that of one
-// that doesn't.
-type Edge = (Asked, Filled, usize, Filled, Filled);
-
-const OUTPUTS: [Edge; 3] = [
-    (
-        GET,
-        ("Content-Type: text/plain\n\n", 0, ""),
-        8166,
-        (
-            "HTTP/1.1 200 OK\r\nContent-Type: text/plain\r\nTransfer-Encoding: chunked\r\n\r\n",
-            0,
-            "",
-        ),
-        (
-            "HTTP/1.1 200 OK\r\nContent-Type: text/plain\r\nContent-Length: 8166\r\n\r\n",
-            0,
-            "",
-        ),
-    ),
-    (
-        GET,
-        ("Content-Type: text/plain\n\n", 0, ""),
-        8167,
-        (
-            "HTTP/1.1 200 OK\r\nContent-Type: text/plain\r\nTransfer-Encoding: chunked\r\n\r\n",
-            0,
-            "",
-        ),
-        ("", 0, ""),
-    ),
-    (
-        OLD,
-        ("Content-Type: text/plain\n\n", 0, ""),
-        8167,
-        ("HTTP/1.1 200 OK\r\nContent-Type: text/plain\r\n\r\n", 0, ""),
-        ("", 0, ""),
-    ),
-];
+// What is asked, the header, how many bytes follow it, the head of a reply that begins before the end, and that of one that doesn't:
+// each header and head a text, how many `a` follow it, and a text.
+const OUTPUTS: &str = r"
+GET | Content-Type: text/plain\n\n | 0 |  | 8166 | HTTP/1.1 200 OK\r\nContent-Type: text/plain\r\nTransfer-Encoding: chunked\r\n\r\n | 0 |  | HTTP/1.1 200 OK\r\nContent-Type: text/plain\r\nContent-Length: 8166\r\n\r\n | 0 |
+GET | Content-Type: text/plain\n\n | 0 |  | 8167 | HTTP/1.1 200 OK\r\nContent-Type: text/plain\r\nTransfer-Encoding: chunked\r\n\r\n | 0 |  |  | 0 |
+OLD | Content-Type: text/plain\n\n | 0 |  | 8167 | HTTP/1.1 200 OK\r\nContent-Type: text/plain\r\n\r\n | 0 |  |  | 0 |
+";
 
 // A header of 8,192 bytes, of 8,191 with a byte after it, and of 8,192 with one.
-const HEADERS: [Edge; 3] = [
-    (
-        GET,
-        ("Content-Type: ", 8176, "\n\n"),
-        0,
-        (
-            "HTTP/1.1 200 OK\r\nContent-Type: ",
-            8176,
-            "\r\nTransfer-Encoding: chunked\r\n\r\n",
-        ),
-        (
-            "HTTP/1.1 200 OK\r\nContent-Type: ",
-            8176,
-            "\r\nContent-Length: 0\r\n\r\n",
-        ),
-    ),
-    (
-        GET,
-        ("Content-Type: ", 8175, "\n\n"),
-        1,
-        (
-            "HTTP/1.1 200 OK\r\nContent-Type: ",
-            8175,
-            "\r\nTransfer-Encoding: chunked\r\n\r\n",
-        ),
-        (
-            "HTTP/1.1 200 OK\r\nContent-Type: ",
-            8175,
-            "\r\nContent-Length: 1\r\n\r\n",
-        ),
-    ),
-    (
-        GET,
-        ("Content-Type: ", 8176, "\n\n"),
-        1,
-        (
-            "HTTP/1.1 200 OK\r\nContent-Type: ",
-            8176,
-            "\r\nTransfer-Encoding: chunked\r\n\r\n",
-        ),
-        ("", 0, ""),
-    ),
-];
+const HEADERS: &str = r"
+GET | Content-Type:\x20 | 8176 | \n\n | 0 | HTTP/1.1 200 OK\r\nContent-Type:\x20 | 8176 | \r\nTransfer-Encoding: chunked\r\n\r\n | HTTP/1.1 200 OK\r\nContent-Type:\x20 | 8176 | \r\nContent-Length: 0\r\n\r\n
+GET | Content-Type:\x20 | 8175 | \n\n | 1 | HTTP/1.1 200 OK\r\nContent-Type:\x20 | 8175 | \r\nTransfer-Encoding: chunked\r\n\r\n | HTTP/1.1 200 OK\r\nContent-Type:\x20 | 8175 | \r\nContent-Length: 1\r\n\r\n
+GET | Content-Type:\x20 | 8176 | \n\n | 1 | HTTP/1.1 200 OK\r\nContent-Type:\x20 | 8176 | \r\nTransfer-Encoding: chunked\r\n\r\n |  | 0 |
+";
 
 // A row with its texts.
 #[derive(Drop)]
@@ -101,14 +33,15 @@ struct Texts {
 }
 
 impl Texts {
-    fn new(alloc: Global, row: &Edge) -> Result<Self, NoMemory> {
-        let header = filled(alloc, row.1)?;
+    fn new(alloc: Global, row: &Cells) -> Result<Self, NoMemory> {
+        let header = filled_at(alloc, row, 1)?;
+        let count = row.size(4).min(10_000);
         Ok(Texts {
-            asked: row.0,
+            asked: asked_of(row),
             header: header.len(),
-            output: with_body(header, row.2)?,
-            begun: filled(alloc, row.3)?,
-            whole: with_body(filled(alloc, row.4)?, row.2)?,
+            output: with_body(header, count)?,
+            begun: filled_at(alloc, row, 5)?,
+            whole: with_body(filled_at(alloc, row, 8)?, count)?,
         })
     }
 
@@ -265,23 +198,28 @@ fn is_answered(alloc: Global, texts: &Texts) -> bool {
     is_single(alloc, texts, false) && is_single(alloc, texts, true)
 }
 
-fn is_edge(alloc: Global, row: &Edge) -> bool {
-    match Texts::new(alloc, row) {
-        Ok(texts) => is_answered(alloc, &texts),
-        Err(_) => false,
-    }
+fn is_edge(alloc: Global, row: &str) -> Result<bool, NoMemory> {
+    let cells = Cells::new(alloc, row)?;
+    let texts = Texts::new(alloc, &cells)?;
+    Ok(cells.len() == 11 && is_answered(alloc, &texts))
 }
 
 #[test]
-fn outputs_about_8192_bytes(rt: HostRuntime) {
-    for row in OUTPUTS.iter() {
-        assert!(&rt; is_edge(rt.alloc(), row), "{}", row.2);
+fn outputs_about_8192_bytes(rt: HostRuntime) -> Result<(), Fail> {
+    let rows = rows_of(rt.alloc(), OUTPUTS)?;
+    assert_eq!(rt; rows.len(), 3);
+    for row in rows.as_slice() {
+        assert!(rt; is_edge(rt.alloc(), row)?, "{row}");
     }
+    Ok(())
 }
 
 #[test]
-fn headers_about_8192_bytes(rt: HostRuntime) {
-    for row in HEADERS.iter() {
-        assert!(&rt; is_edge(rt.alloc(), row), "{} {}", row.1.1, row.2);
+fn headers_about_8192_bytes(rt: HostRuntime) -> Result<(), Fail> {
+    let rows = rows_of(rt.alloc(), HEADERS)?;
+    assert_eq!(rt; rows.len(), 3);
+    for row in rows.as_slice() {
+        assert!(rt; is_edge(rt.alloc(), row)?, "{row}");
     }
+    Ok(())
 }

@@ -1,123 +1,52 @@
 // Outputs about the size at which a reply begins without a tick, and a header that is about as long.
-use super::{Bad, Ended, GET, HEAD, Hop, OLD, RAW, Rest, is_ended};
-use host_base::{Bytes, Cause, NoMemory};
+use super::super::cells::{Cells, rows_of};
+use super::{GET, asked_of, is_ended};
+use host_base::{Bytes, NoMemory};
 use reply_stream::{Asked, Last, Stream};
 use std::alloc::Global;
+use std::test::Fail;
 
-// A text with so many `a` within it.
-pub type Filled = (&'static str, usize, &'static str);
+// What is asked, the output, what is written before its end, and at its end: each a text, how many `a` follow it, and a text.
+const LONG: &str = r"
+// The 8,193rd byte begins the reply, and no sooner one.
+GET | Content-Type: text/plain\n\n | 8166 |  |  | 0 |  | HTTP/1.1 200 OK\r\nContent-Type: text/plain\r\nContent-Length: 8166\r\n\r\n | 8166 |
+GET | Content-Type: text/plain\n\n | 8167 |  | HTTP/1.1 200 OK\r\nContent-Type: text/plain\r\nTransfer-Encoding: chunked\r\n\r\n1fe7\r\n | 8167 | \r\n | 0\r\n\r\n | 0 |
+OLD | Content-Type: text/plain\n\n | 8166 |  |  | 0 |  | HTTP/1.1 200 OK\r\nContent-Type: text/plain\r\nContent-Length: 8166\r\n\r\n | 8166 |
+OLD | Content-Type: text/plain\n\n | 8167 |  | HTTP/1.1 200 OK\r\nContent-Type: text/plain\r\n\r\n | 8167 |  |  | 0 |
+HEAD | Content-Type: text/plain\n\n | 9000 |  | HTTP/1.1 200 OK\r\nContent-Type: text/plain\r\n\r\n | 0 |  |  | 0 |
+RAW |  | 8192 |  |  | 0 |  |  | 8192 |
+RAW |  | 8193 |  |  | 8193 |  |  | 0 |
+// A header of 8,192 bytes, of 8,191 and of 8,192 with a byte after it.
+GET | Content-Type:\x20 | 8176 | \n\n |  | 0 |  | HTTP/1.1 200 OK\r\nContent-Type:\x20 | 8176 | \r\nContent-Length: 0\r\n\r\n
+GET | Content-Type:\x20 | 8175 | \n\nx |  | 0 |  | HTTP/1.1 200 OK\r\nContent-Type:\x20 | 8175 | \r\nContent-Length: 1\r\n\r\nx
+GET | Content-Type:\x20 | 8176 | \n\nx | HTTP/1.1 200 OK\r\nContent-Type:\x20 | 8176 | \r\nTransfer-Encoding: chunked\r\n\r\n1\r\nx\r\n | 0\r\n\r\n | 0 |
+// A redirect without a document.
+GET | Location: http://x/\n\n | 9000 |  |  | 0 |  | HTTP/1.1 302 Found\r\nLocation: http://x/\r\nContent-Length: 0\r\n\r\n | 0 |
+";
 
-// What is asked, the output, what is written before its end, and at its end.
-const LONG: [(Asked, Filled, Filled, Filled); 11] = [
-    // The 8,193rd byte begins the reply, and no sooner one.
-    (
-        GET,
-        ("Content-Type: text/plain\n\n", 8166, ""),
-        ("", 0, ""),
-        (
-            "HTTP/1.1 200 OK\r\nContent-Type: text/plain\r\nContent-Length: 8166\r\n\r\n",
-            8166,
-            "",
-        ),
-    ),
-    (
-        GET,
-        ("Content-Type: text/plain\n\n", 8167, ""),
-        (
-            "HTTP/1.1 200 OK\r\nContent-Type: text/plain\r\nTransfer-Encoding: chunked\r\n\r\n1fe7\r\n",
-            8167,
-            "\r\n",
-        ),
-        ("0\r\n\r\n", 0, ""),
-    ),
-    (
-        OLD,
-        ("Content-Type: text/plain\n\n", 8166, ""),
-        ("", 0, ""),
-        (
-            "HTTP/1.1 200 OK\r\nContent-Type: text/plain\r\nContent-Length: 8166\r\n\r\n",
-            8166,
-            "",
-        ),
-    ),
-    (
-        OLD,
-        ("Content-Type: text/plain\n\n", 8167, ""),
-        (
-            "HTTP/1.1 200 OK\r\nContent-Type: text/plain\r\n\r\n",
-            8167,
-            "",
-        ),
-        ("", 0, ""),
-    ),
-    (
-        HEAD,
-        ("Content-Type: text/plain\n\n", 9000, ""),
-        ("HTTP/1.1 200 OK\r\nContent-Type: text/plain\r\n\r\n", 0, ""),
-        ("", 0, ""),
-    ),
-    (RAW, ("", 8192, ""), ("", 0, ""), ("", 8192, "")),
-    (RAW, ("", 8193, ""), ("", 8193, ""), ("", 0, "")),
-    // A header of 8,192 bytes, of 8,191 and of 8,192 with a byte after it.
-    (
-        GET,
-        ("Content-Type: ", 8176, "\n\n"),
-        ("", 0, ""),
-        (
-            "HTTP/1.1 200 OK\r\nContent-Type: ",
-            8176,
-            "\r\nContent-Length: 0\r\n\r\n",
-        ),
-    ),
-    (
-        GET,
-        ("Content-Type: ", 8175, "\n\nx"),
-        ("", 0, ""),
-        (
-            "HTTP/1.1 200 OK\r\nContent-Type: ",
-            8175,
-            "\r\nContent-Length: 1\r\n\r\nx",
-        ),
-    ),
-    (
-        GET,
-        ("Content-Type: ", 8176, "\n\nx"),
-        (
-            "HTTP/1.1 200 OK\r\nContent-Type: ",
-            8176,
-            "\r\nTransfer-Encoding: chunked\r\n\r\n1\r\nx\r\n",
-        ),
-        ("0\r\n\r\n", 0, ""),
-    ),
-    // A redirect without a document.
-    (
-        GET,
-        ("Location: http://x/\n\n", 9000, ""),
-        ("", 0, ""),
-        (
-            "HTTP/1.1 302 Found\r\nLocation: http://x/\r\nContent-Length: 0\r\n\r\n",
-            0,
-            "",
-        ),
-    ),
-];
+// Long outputs of which nothing is written, and what they come to.
+const UNWRITTEN: &str = r"
+Location: /x\n\n | 9000 |  | hop | /x
+Content-Type:\x20 | 8177 | \n\n | bad | HeaderTooLarge
+Content-Type:\x20 | 8178 |  | bad | HeaderTooLarge
+Content-Type:\x20 | 8177 |  | bad | HeaderIncomplete
+x\n\n | 9000 |  | bad | HeaderLine
+";
 
-// Long outputs of which nothing is written.
-const UNWRITTEN: [(Filled, Ended); 5] = [
-    (("Location: /x\n\n", 9000, ""), Hop("/x")),
-    (("Content-Type: ", 8177, "\n\n"), Bad(Cause::HeaderTooLarge)),
-    (("Content-Type: ", 8178, ""), Bad(Cause::HeaderTooLarge)),
-    (("Content-Type: ", 8177, ""), Bad(Cause::HeaderIncomplete)),
-    (("x\n\n", 9000, ""), Bad(Cause::HeaderLine)),
-];
-
-pub fn filled(alloc: Global, text: Filled) -> Result<Vec<u8>, NoMemory> {
-    let mut bytes = Vec::from_slice(alloc, text.0.as_bytes())?;
-    for _ in 0..text.1 {
+/// A text, so many `a` behind it, and a text.
+pub fn filled(alloc: Global, front: &[u8], count: usize, back: &[u8]) -> Result<Vec<u8>, NoMemory> {
+    let mut bytes = Vec::from_slice(alloc, front)?;
+    for _ in 0..count {
         bytes.push(b'a')?;
     }
-    bytes.extend_from_slice(text.2.as_bytes())?;
+    bytes.extend_from_slice(back)?;
     Ok(bytes)
+}
+
+/// The text of the three cells from one on.
+pub fn filled_at(alloc: Global, row: &Cells, place: usize) -> Result<Vec<u8>, NoMemory> {
+    let count = row.size(place.saturating_add(1)).min(10_000);
+    filled(alloc, row.at(place), count, row.at(place.saturating_add(2)))
 }
 
 fn hear(alloc: Global, stream: &mut Stream, piece: &[u8]) -> Result<Bytes, NoMemory> {
@@ -159,12 +88,12 @@ struct Texts {
     rest: Vec<u8>,
 }
 
-fn texts_of(alloc: Global, row: &(Asked, Filled, Filled, Filled)) -> Result<Texts, NoMemory> {
+fn texts_of(alloc: Global, row: &Cells) -> Result<Texts, NoMemory> {
     Ok(Texts {
-        asked: row.0,
-        output: filled(alloc, row.1)?,
-        before: filled(alloc, row.2)?,
-        rest: filled(alloc, row.3)?,
+        asked: asked_of(row),
+        output: filled_at(alloc, row, 1)?,
+        before: filled_at(alloc, row, 4)?,
+        rest: filled_at(alloc, row, 7)?,
     })
 }
 
@@ -209,47 +138,53 @@ fn is_long_row_however_cut(alloc: Global, texts: &Texts) -> bool {
     is_long_row(alloc, texts, 0, 1)
 }
 
-fn is_long(alloc: Global, row: &(Asked, Filled, Filled, Filled)) -> bool {
-    match texts_of(alloc, row) {
-        Ok(texts) => is_long_row_however_cut(alloc, &texts),
-        Err(_) => false,
-    }
-}
-
 #[test]
-fn long_outputs(rt: HostRuntime) {
-    for row in LONG.iter() {
-        assert!(&rt; is_long(rt.alloc(), row), "{} {}", row.1.0, row.1.1);
+fn long_outputs(rt: HostRuntime) -> Result<(), Fail> {
+    let alloc = rt.alloc();
+    let rows = rows_of(alloc, LONG)?;
+    assert_eq!(rt; rows.len(), 11);
+    for row in rows.as_slice() {
+        let cells = Cells::new(alloc, row)?;
+        assert_eq!(rt; cells.len(), 10, "{row}");
+        let texts = texts_of(alloc, &cells)?;
+        assert!(rt; is_long_row_however_cut(alloc, &texts), "{row}");
     }
+    Ok(())
 }
 
-fn is_unwritten_as(alloc: Global, output: &[u8], ended: Ended, first: usize, size: usize) -> bool {
+fn is_unwritten_as(
+    alloc: Global,
+    output: &[u8],
+    row: &Cells,
+    first: usize,
+    size: usize,
+) -> Result<bool, Fail> {
     let mut stream = Stream::new(alloc, GET);
     let written = is_written(alloc, &mut stream, output, (first, size), b"");
     let begun = stream.has_begun();
-    match stream.end(false, None) {
-        Ok(last) => written && !begun && is_ended(&last, ended),
-        Err(_) => false,
-    }
+    let last = stream.end(false, None)?;
+    Ok(written && !begun && is_ended(alloc, &last, row, 3)?)
 }
 
-fn is_unwritten(alloc: Global, row: &(Filled, Ended)) -> bool {
-    match filled(alloc, row.0) {
-        Ok(output) => {
-            is_unwritten_as(alloc, output.as_slice(), row.1, 0, 1)
-                && is_unwritten_as(alloc, output.as_slice(), row.1, 0, 8192)
-                && is_unwritten_as(alloc, output.as_slice(), row.1, 0, 10_000)
-                && is_unwritten_as(alloc, output.as_slice(), row.1, 8191, 1)
-        }
-        Err(_) => false,
-    }
+fn is_unwritten(alloc: Global, row: &str) -> Result<bool, Fail> {
+    let cells = Cells::new(alloc, row)?;
+    let output = filled_at(alloc, &cells, 0)?;
+    Ok(
+        is_unwritten_as(alloc, output.as_slice(), &cells, 0, 1)?
+            && is_unwritten_as(alloc, output.as_slice(), &cells, 0, 8192)?
+            && is_unwritten_as(alloc, output.as_slice(), &cells, 0, 10_000)?
+            && is_unwritten_as(alloc, output.as_slice(), &cells, 8191, 1)?,
+    )
 }
 
 #[test]
-fn long_outputs_of_which_nothing_is_written(rt: HostRuntime) {
-    for row in UNWRITTEN.iter() {
-        assert!(&rt; is_unwritten(rt.alloc(), row), "{} {}", row.0.0, row.0.1);
+fn long_outputs_of_which_nothing_is_written(rt: HostRuntime) -> Result<(), Fail> {
+    let rows = rows_of(rt.alloc(), UNWRITTEN)?;
+    assert_eq!(rt; rows.len(), 5);
+    for row in rows.as_slice() {
+        assert!(rt; is_unwritten(rt.alloc(), row)?, "{row}");
     }
+    Ok(())
 }
 
 // Tells a piece: this is written.
@@ -263,19 +198,18 @@ fn is_answered(stream: &mut Stream, piece: Vec<u8>, close: bool, due: &[u8]) -> 
 // A long document in one piece, one byte more, and the end.
 #[test]
 fn a_long_document(rt: HostRuntime) -> Result<(), NoMemory> {
-    let output = filled(rt.alloc(), ("Content-Type: text/plain\n\n", 9000, ""))?;
+    let alloc = rt.alloc();
+    let output = filled(alloc, b"Content-Type: text/plain\n\n", 9000, b"")?;
     let begun = filled(
-        rt.alloc(),
-        (
-            "HTTP/1.1 200 OK\r\nContent-Type: text/plain\r\nTransfer-Encoding: chunked\r\nConnection: close\r\n\r\n2328\r\n",
-            9000,
-            "\r\n",
-        ),
+        alloc,
+        b"HTTP/1.1 200 OK\r\nContent-Type: text/plain\r\nTransfer-Encoding: chunked\r\nConnection: close\r\n\r\n2328\r\n",
+        9000,
+        b"\r\n",
     )?;
-    let more = filled(rt.alloc(), ("b", 0, ""))?;
-    let mut stream = Stream::new(rt.alloc(), GET);
+    let more = filled(alloc, b"b", 0, b"")?;
+    let mut stream = Stream::new(alloc, GET);
     assert!(&rt; is_answered(&mut stream, output, true, begun.as_slice()));
     assert!(&rt; is_answered(&mut stream, more, false, b"1\r\nb\r\n"));
-    assert!(&rt; is_ended(&stream.end(false, None)?, Rest("0\r\n\r\n")));
+    assert!(&rt; is_rest(&stream.end(false, None)?, b"0\r\n\r\n"));
     Ok(())
 }

@@ -8,9 +8,9 @@ use super::words::Heard::{
     StartFull, Started, Stop, Tick, Took, Wrote, WsBad, WsText,
 };
 use super::words::{Asked, Heard, answers, does, events_of, hears};
-use crate::MemoryOutside;
 use host_base::NoMemory;
 use host_trace::Acted;
+use memory_world::MemoryOutside;
 use std::alloc::Global;
 use std::process::Abort;
 use std::test::Fail;

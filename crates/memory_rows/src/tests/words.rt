@@ -1,7 +1,7 @@
 // Events and acts in short, so that tables may have many of them: of bytes only the number stands.
-use crate::MemoryOutside;
 use host_base::{Bytes, Launch, NoMemory, Pairs, Peer, Text, Texts};
 use host_trace::{Act, Acted, Event, Events, Item, Outside, Why};
+use memory_world::MemoryOutside;
 use std::alloc::Global;
 use std::process::Abort;
 use std::test::Fail;
@@ -54,6 +54,83 @@ pub enum Asked {
 pub enum Word {
     In(Heard),
     Out(Asked),
+}
+
+fn child_heard_in(name: &str, k: u64, n: u64) -> Option<Heard> {
+    Some(match name {
+        "Started" => Heard::Started(k),
+        "StartFailed" => Heard::StartFailed(k),
+        "StartFull" => Heard::StartFull(k, n as u32),
+        "ChildBytes" => Heard::ChildBytes(k, n as usize),
+        "ChildEof" => Heard::ChildEof(k),
+        "ChildBroken" => Heard::ChildBroken(k),
+        "Took" => Heard::Took(k, n),
+        "InputGone" => Heard::InputGone(k),
+        "Exited" => Heard::Exited(k),
+        _ => return None,
+    })
+}
+
+fn client_heard_in(name: &str, c: u64, n: u64) -> Option<Heard> {
+    Some(match name {
+        "Accepted" => Heard::Accepted,
+        "ClientBytes" => Heard::ClientBytes(c, n as usize),
+        "ClientEof" => Heard::ClientEof(c),
+        "ClientGone" => Heard::ClientGone(c),
+        "Wrote" => Heard::Wrote(c, n),
+        "WsText" => Heard::WsText(c, n as usize),
+        "WsBinary" => Heard::WsBinary(c),
+        "WsClosed" => Heard::WsClosed(c),
+        "WsBad" => Heard::WsBad(c),
+        "NoRoom" => Heard::NoRoom(c),
+        "Tick" => Heard::Tick,
+        "Stop" => Heard::Stop,
+        _ => return None,
+    })
+}
+
+fn number_in(text: &str) -> u64 {
+    text.parse::<u64>().unwrap_or(0)
+}
+
+/// The event of a text; none where there is none of its name.
+pub fn heard_in(text: &str) -> Option<Heard> {
+    let (name, numbers) = text.split_once(' ').unwrap_or((text, ""));
+    let (first, second) = numbers.split_once(' ').unwrap_or((numbers, ""));
+    let (first, second) = (number_in(first), number_in(second));
+    match child_heard_in(name, first, second) {
+        Some(heard) => Some(heard),
+        None => client_heard_in(name, first, second),
+    }
+}
+
+fn asked_in(text: &str) -> Option<Asked> {
+    let (name, numbers) = text.split_once(' ').unwrap_or((text, ""));
+    let (first, second) = numbers.split_once(' ').unwrap_or((numbers, ""));
+    let (at, n) = (number_in(first), number_in(second) as usize);
+    Some(match name {
+        "WantClient" => Asked::WantClient(at),
+        "Write" => Asked::Write(at, n),
+        "Shut" => Asked::Shut(at),
+        "Start" => Asked::Start(at),
+        "Feed" => Asked::Feed(at, n),
+        "EndInput" => Asked::EndInput(at),
+        "WantChild" => Asked::WantChild(at),
+        "Kill" => Asked::Kill(at),
+        "Release" => Asked::Release(at),
+        "Upgrade" => Asked::Upgrade(at),
+        "Says" => Asked::Says(at, n),
+        "CloseWs" => Asked::CloseWs(at),
+        _ => return None,
+    })
+}
+
+/// The item of a text, an act behind `> `.
+pub fn word_in(text: &str) -> Option<Word> {
+    match text.strip_prefix("> ") {
+        Some(act) => Some(Word::Out(asked_in(act)?)),
+        None => Some(Word::In(heard_in(text)?)),
+    }
 }
 
 fn bytes_of(alloc: Global, count: usize) -> Result<Bytes, NoMemory> {

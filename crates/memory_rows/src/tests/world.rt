@@ -3,11 +3,11 @@ ghost use Rattle.std.specs.Prelude.{◌<◌};
 
 use super::words::Heard::{Accepted, Stop, Tick};
 use super::words::{Heard, events_of, hears};
-use crate::{MemoryOutside, MemorySink, MemoryStore, MemoryWorld, StoredFile};
 use host_base::{
     Bytes, Docs, Hosts, Limits, NoMemory, Sink, SinkFault, Site, SiteStore, StoreFault, Text,
 };
 use host_trace::{EnterFault, Mode, World};
+use memory_world::{MemoryOutside, MemorySink, MemoryStore, MemoryWorld, StoredFile};
 use std::alloc::Global;
 use std::process::Abort;
 use std::test::Fail;
