@@ -1,4 +1,5 @@
 // What is read of a request, part by part.
+mod cells;
 mod framings;
 mod heads;
 mod launches;

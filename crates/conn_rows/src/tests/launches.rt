@@ -12,7 +12,7 @@ use std::test::Fail;
 // A site, what is heard, what children are started with, and what they are fed.
 struct Case {
     site: &'static str,
-    heard: &'static [Heard],
+    heard: &'static [Heard<'static>],
     launched: &'static [&'static str],
     fed: &'static str,
 }

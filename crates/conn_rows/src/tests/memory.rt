@@ -2,7 +2,7 @@
 // nothing but the end of its child follows.
 ghost use Rattle.host_base.specs.SiteRules.{IsServed};
 
-use super::play::{Row, SITE, record};
+use super::play::{Row, SITE, record, rows_of};
 use super::{replies, requests, talks};
 use host_base::{NoMemory, Site};
 use site_file::read_site;
@@ -36,7 +36,7 @@ fn is_shut(log: &str) -> bool {
 }
 
 // The number of the first refused act after which a row goes on.
-fn goes_on(alloc: Global, site: &Site, row: &Row, count: u32) -> Result<Option<u32>, NoMemory>
+fn goes_on(alloc: Global, site: &Site, row: Row, count: u32) -> Result<Option<u32>, NoMemory>
     requires { IsServed site.now }
 {
     for at in 0..count {
@@ -49,10 +49,10 @@ fn goes_on(alloc: Global, site: &Site, row: &Row, count: u32) -> Result<Option<u
 }
 
 // The first row that goes on; nothing where there is none.
-fn wrong(alloc: Global, site: &Site, rows: &[Row]) -> Result<&'static str, NoMemory>
+fn wrong<'t>(alloc: Global, site: &Site, table: &'t str) -> Result<&'t str, NoMemory>
     requires { IsServed site.now }
 {
-    for row in rows {
+    for row in rows_of(alloc, table)? {
         let whole = record(alloc, site, row, false, None)?;
         if goes_on(alloc, site, row, whole.carried)?.is_some() {
             return Ok(row.name);
@@ -68,9 +68,9 @@ fn each_act_may_find_no_room(rt: HostRuntime) -> Result<(), Fail> {
         assert!(rt; false);
         return Ok(());
     };
-    let said = wrong(alloc, &site, replies::ROWS.as_slice())?;
+    let said = wrong(alloc, &site, replies::ROWS)?;
     assert_eq!(rt; said, "");
-    let said = wrong(alloc, &site, requests::ROWS.as_slice())?;
+    let said = wrong(alloc, &site, requests::ROWS)?;
     assert_eq!(rt; said, "");
     Ok(())
 }
@@ -82,7 +82,7 @@ fn each_act_of_a_talk_may_find_no_room(rt: HostRuntime) -> Result<(), Fail> {
         assert!(rt; false);
         return Ok(());
     };
-    let said = wrong(alloc, &site, talks::ROWS.as_slice())?;
+    let said = wrong(alloc, &site, talks::ROWS)?;
     assert_eq!(rt; said, "");
     Ok(())
 }

@@ -1,7 +1,7 @@
 // What is written and said doesn't depend on how the client's bytes and the output were cut.
 ghost use Rattle.host_base.specs.SiteRules.{IsServed};
 
-use super::play::{Row, SITE, record};
+use super::play::{SITE, record, rows_of};
 use super::{replies, requests, talks};
 use host_base::{NoMemory, Site};
 use site_file::read_site;
@@ -9,10 +9,10 @@ use std::alloc::Global;
 use std::test::Fail;
 
 // The first row in which something else is written or said; nothing where there is none.
-fn other(alloc: Global, site: &Site, rows: &[Row]) -> Result<&'static str, NoMemory>
+fn other<'t>(alloc: Global, site: &Site, table: &'t str) -> Result<&'t str, NoMemory>
     requires { IsServed site.now }
 {
-    for row in rows {
+    for row in rows_of(alloc, table)? {
         let whole = record(alloc, site, row, false, None)?;
         let single = record(alloc, site, row, true, None)?;
         if whole.wrote.as_slice() != single.wrote.as_slice() {
@@ -36,9 +36,9 @@ fn single_bytes_are_answered_as_whole_pieces(rt: HostRuntime) -> Result<(), Fail
         assert!(rt; false);
         return Ok(());
     };
-    let said = other(alloc, &site, replies::ROWS.as_slice())?;
+    let said = other(alloc, &site, replies::ROWS)?;
     assert_eq!(rt; said, "");
-    let said = other(alloc, &site, requests::ROWS.as_slice())?;
+    let said = other(alloc, &site, requests::ROWS)?;
     assert_eq!(rt; said, "");
     Ok(())
 }
@@ -50,7 +50,7 @@ fn single_bytes_are_talked_as_whole_pieces(rt: HostRuntime) -> Result<(), Fail> 
         assert!(rt; false);
         return Ok(());
     };
-    let said = other(alloc, &site, talks::ROWS.as_slice())?;
+    let said = other(alloc, &site, talks::ROWS)?;
     assert_eq!(rt; said, "");
     Ok(())
 }

@@ -3,7 +3,8 @@ ghost use Rattle.std.specs.Prelude.{◌≡◌};
 ghost use Rattle.host_base.specs.SiteRules.{IsServed};
 ghost use Rattle.reply_writer.specs.WholeRules.{IsStamp};
 
-use super::recorder::Recorder;
+use super::recorder::{Recorder, push_line};
+use super::script::{bytes_of, heard_of, is_event, words_of};
 use any_conn::AnyConn;
 use host_base::{Bytes, NoMemory, Peer, Site, Text};
 use host_trace::Event;
@@ -12,9 +13,9 @@ use site_file::read_site;
 use std::alloc::Global;
 
 #[derive(Clone, Copy)]
-pub enum Heard {
+pub enum Heard<'t> {
     Accept,
-    Client(&'static str),
+    Client(&'t str),
     // So many bytes of one kind.
     Fill(u8, usize),
     End,
@@ -23,15 +24,15 @@ pub enum Heard {
     Started(u64),
     StartFailed(u64),
     StartFull(u64, u32),
-    Out(u64, &'static str),
+    Out(u64, &'t str),
     OutEnd(u64),
     OutBroken(u64),
     // So much output of one byte, behind a front.
-    OutFill(u64, &'static str, usize),
+    OutFill(u64, &'t str, usize),
     Took(u64, u64),
     InGone(u64),
     Exited(u64),
-    Message(&'static str),
+    Message(&'t str),
     // A message of so many bytes.
     MessageFill(usize),
     Binary,
@@ -49,12 +50,23 @@ use Heard::{
     Took, Wrote,
 };
 
-// What is heard, and the acts that follow.
-pub type Beat = (Heard, &'static [&'static str]);
+/// A row of a table. Its beats are lines: an event stands at the margin, by its name, a number and what it brings, and the acts
+/// that follow stand below it, four blanks further in.
+#[derive(Clone, Copy)]
+pub struct Row<'t> {
+    pub name: &'t str,
+    pub beats: &'t str,
+    table: &'t str,
+}
 
-pub struct Row {
-    pub name: &'static str,
-    pub beats: &'static [Beat],
+/// The rows of a table, each behind `== ` and its name.
+pub fn rows_of<'t>(alloc: Global, table: &'t str) -> Result<Vec<Row<'t>>, NoMemory> {
+    let mut rows = Vec::new(alloc);
+    for row in table.split("\n== ").skip(1) {
+        let (name, beats) = row.split_once('\n').unwrap_or((row, ""));
+        rows.push(Row { name, beats, table })?;
+    }
+    Ok(rows)
 }
 
 pub const SITE: &str = "version = 1
@@ -231,10 +243,21 @@ impl Script {
         self.add(event)
     }
 
-    fn beats(&mut self, row: &Row) -> Result<(), NoMemory> {
-        for beat in row.beats {
-            self.hear(beat.0)?;
-            self.mark()?;
+    // What a line of a table says is heard.
+    fn hear_line(&mut self, table: &str, line: &str) -> Result<(), NoMemory> {
+        let words = words_of(self.alloc, table, line)?;
+        match heard_of(&words) {
+            Some(heard) => self.hear(heard),
+            None => Ok(()),
+        }
+    }
+
+    fn beats(&mut self, row: Row) -> Result<(), NoMemory> {
+        for line in row.beats.lines() {
+            if is_event(line) {
+                self.hear_line(row.table, line)?;
+                self.mark()?;
+            }
         }
         Ok(())
     }
@@ -265,7 +288,7 @@ pub fn drive(alloc: Global, site: &Site, script: Script, refused: Option<u32>) -
 pub fn record(
     alloc: Global,
     site: &Site,
-    row: &Row,
+    row: Row,
     single: bool,
     refused: Option<u32>,
 ) -> Result<Recorder, NoMemory>
@@ -276,26 +299,33 @@ pub fn record(
     Ok(drive(alloc, site, script, refused))
 }
 
-// The acts that are due, beat by beat.
-fn due(alloc: Global, row: &Row) -> Result<String, NoMemory> {
+// The acts that are due, beat by beat. What names no event is not to be heard.
+fn due(alloc: Global, row: Row) -> Result<String, NoMemory> {
     let mut text = String::new(alloc);
-    for beat in row.beats {
-        push_lines(&mut text, beat.1)?;
-        text.push_str("--\n")?;
+    let mut begun = false;
+    for line in row.beats.lines() {
+        if let Some(act) = line.strip_prefix("    ") {
+            let act = bytes_of(alloc, row.table, act)?;
+            push_line(
+                &mut text,
+                str::from_utf8(act.as_slice()).unwrap_or("no text"),
+            )?;
+        } else if is_event(line) {
+            if begun {
+                text.push_str("--\n")?;
+            }
+            begun = true;
+            if heard_of(&words_of(alloc, row.table, line)?).is_none() {
+                text.push_str("no event\n")?;
+            }
+        }
     }
+    text.push_str("--\n")?;
     Ok(text)
 }
 
-fn push_lines(text: &mut String, lines: &[&'static str]) -> Result<(), NoMemory> {
-    for line in lines {
-        text.push_str(*line)?;
-        text.push('\n')?;
-    }
-    Ok(())
-}
-
 // What a row does, where that is not what it must; nothing where it is.
-fn play_at(alloc: Global, site: &Site, row: &Row) -> Result<String, NoMemory>
+fn play_at(alloc: Global, site: &Site, row: Row) -> Result<String, NoMemory>
     requires { IsServed site.now }
 {
     let out = record(alloc, site, row, false, None)?;
@@ -307,7 +337,7 @@ fn play_at(alloc: Global, site: &Site, row: &Row) -> Result<String, NoMemory>
 }
 
 // Plays a row, and says what it does where that is not what it must.
-pub fn run_row(alloc: Global, row: &Row) -> Result<String, NoMemory> {
+pub fn run_row(alloc: Global, row: Row) -> Result<String, NoMemory> {
     match read_site(alloc, SITE.as_bytes()) {
         Ok(site) => play_at(alloc, &site, row),
         Err(_) => Ok(format!(in alloc; "no site")?),

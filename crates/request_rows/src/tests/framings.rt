@@ -1,126 +1,90 @@
 // What bodies in chunks are read as, whole, byte by byte and cut in two at each place, and how heads
 // delimit their bodies.
+use super::cells::{Cells, rows_of};
 use body_framing::{ChunkStep, Chunks, framing_of};
 use host_base::{Bytes, Cause, Field, Fields, Framing, Head, Limits, NoMemory, Version};
 use std::alloc::Global;
+use std::process::Abort;
+use std::test::Fail;
 
-const NONE: usize = 1_000_000;
-
-// Bytes, after how many of them the body ends or is refused, the cause, and the data at most 5 bytes.
-const BODIES: [(&[u8], usize, Option<Cause>, &[u8]); 53] = [
-    (b"5\r\nabcde\r\n0\r\n\r\n", 15, None, b"abcde"),
-    (b"0\r\n\r\n", 5, None, b""),
-    (b"00\r\n\r\n", 6, None, b""),
-    (b"0000000000000000\r\n\r\n", 20, None, b""),
-    (b"5;x=1\r\nabcde\r\n0\r\nA: b\r\n\r\n", 25, None, b"abcde"),
-    (b"2\r\nab\r\n03\r\ncde\r\n0\r\n\r\nPOST", 21, None, b"abcde"),
-    (b"2\r\n\r\n\r\n0\r\n\r\n\r\n", 12, None, b"\r\n"),
-    (b"1 \r\na\r\n0\t\r\n\r\n", 13, None, b"a"),
-    (b"1;\r\na\r\n0;a;b=\"c\"\r\n\r\n", 20, None, b"a"),
-    (b"0\r\n:\r\nB\r\n\r\n0\r\n", 11, None, b""),
-    (b"5\r\nabc", NONE, None, b"abc"),
-    (b"", NONE, None, b""),
-    (b"0\r\n", NONE, None, b""),
-    (b"0\r\n\r", NONE, None, b""),
-    (b"0\r\nA\r\n", NONE, None, b""),
-    (b"6", 1, Some(Cause::BodyTooLong), b""),
-    (b"2\r\nab\r\n4", 8, Some(Cause::BodyTooLong), b"ab"),
-    (b"f\r\n", 1, Some(Cause::BodyTooLong), b""),
-    (b"F\r\n", 1, Some(Cause::BodyTooLong), b""),
-    (b"10\r\n", 2, Some(Cause::BodyTooLong), b""),
-    (b"0000000000000006\r\n", 16, Some(Cause::BodyTooLong), b""),
-    (b"5\r\nabcde\r\n1", 11, Some(Cause::BodyTooLong), b"abcde"),
-    (b"ffffffffffffffff\r\n", 1, Some(Cause::BodyTooLong), b""),
-    (b"00000000000000000\r\n", 17, Some(Cause::BadChunk), b""),
-    (b"\r\n", 1, Some(Cause::BadChunk), b""),
-    (b"\n", 1, Some(Cause::BadChunk), b""),
-    (b"5\n", 2, Some(Cause::BadChunk), b""),
-    (b"5\r\r", 3, Some(Cause::BadChunk), b""),
-    (b"5\ra", 3, Some(Cause::BadChunk), b""),
-    (b" 5\r\n", 1, Some(Cause::BadChunk), b""),
-    (b"\t5\r\n", 1, Some(Cause::BadChunk), b""),
-    (b"+5\r\n", 1, Some(Cause::BadChunk), b""),
-    (b"-1\r\n", 1, Some(Cause::BadChunk), b""),
-    (b"0x5\r\n", 2, Some(Cause::BadChunk), b""),
-    (b"g\r\n", 1, Some(Cause::BadChunk), b""),
-    (b"G\r\n", 1, Some(Cause::BadChunk), b""),
-    (b"/\r\n", 1, Some(Cause::BadChunk), b""),
-    (b":\r\n", 1, Some(Cause::BadChunk), b""),
-    (b"@\r\n", 1, Some(Cause::BadChunk), b""),
-    (b"`\r\n", 1, Some(Cause::BadChunk), b""),
-    (b"5_\r\n", 2, Some(Cause::BadChunk), b""),
-    (b"5;\0\r\n", 3, Some(Cause::BadChunk), b""),
-    (b"5;a\n", 4, Some(Cause::BadChunk), b""),
-    (b"5;a\rb", 5, Some(Cause::BadChunk), b""),
-    (b"1\r\naX", 5, Some(Cause::BadChunk), b"a"),
-    (b"1\r\na\n", 5, Some(Cause::BadChunk), b"a"),
-    (b"1\r\na\rX", 6, Some(Cause::BadChunk), b"a"),
-    (b"1\r\nab\r\n", 5, Some(Cause::BadChunk), b"a"),
-    (b"0\r\n\n", 4, Some(Cause::BadChunk), b""),
-    (b"0\r\nA\0", 5, Some(Cause::BadChunk), b""),
-    (b"0\r\nA\n", 5, Some(Cause::BadChunk), b""),
-    (b"0\r\nA\rB", 6, Some(Cause::BadChunk), b""),
-    (b"0\r\n\rA", 5, Some(Cause::BadChunk), b""),
-];
+// Bytes, after how many of them the body ends or is refused (`never`: it does not), the cause, and the data, at most 5 bytes.
+const BODIES: &str = r#"
+5\r\nabcde\r\n0\r\n\r\n | 15 | - | abcde
+0\r\n\r\n | 5 | - |
+00\r\n\r\n | 6 | - |
+0000000000000000\r\n\r\n | 20 | - |
+5;x=1\r\nabcde\r\n0\r\nA: b\r\n\r\n | 25 | - | abcde
+2\r\nab\r\n03\r\ncde\r\n0\r\n\r\nPOST | 21 | - | abcde
+2\r\n\r\n\r\n0\r\n\r\n\r\n | 12 | - | \r\n
+1 \r\na\r\n0\t\r\n\r\n | 13 | - | a
+1;\r\na\r\n0;a;b="c"\r\n\r\n | 20 | - | a
+0\r\n:\r\nB\r\n\r\n0\r\n | 11 | - |
+5\r\nabc | never | - | abc
+| never | - |
+0\r\n | never | - |
+0\r\n\r | never | - |
+0\r\nA\r\n | never | - |
+6 | 1 | BodyTooLong |
+2\r\nab\r\n4 | 8 | BodyTooLong | ab
+f\r\n | 1 | BodyTooLong |
+F\r\n | 1 | BodyTooLong |
+10\r\n | 2 | BodyTooLong |
+0000000000000006\r\n | 16 | BodyTooLong |
+5\r\nabcde\r\n1 | 11 | BodyTooLong | abcde
+ffffffffffffffff\r\n | 1 | BodyTooLong |
+00000000000000000\r\n | 17 | BadChunk |
+\r\n | 1 | BadChunk |
+\n | 1 | BadChunk |
+5\n | 2 | BadChunk |
+5\r\r | 3 | BadChunk |
+5\ra | 3 | BadChunk |
+\x205\r\n | 1 | BadChunk |
+\t5\r\n | 1 | BadChunk |
++5\r\n | 1 | BadChunk |
+-1\r\n | 1 | BadChunk |
+0x5\r\n | 2 | BadChunk |
+g\r\n | 1 | BadChunk |
+G\r\n | 1 | BadChunk |
+/\r\n | 1 | BadChunk |
+:\r\n | 1 | BadChunk |
+@\r\n | 1 | BadChunk |
+`\r\n | 1 | BadChunk |
+5_\r\n | 2 | BadChunk |
+5;\0\r\n | 3 | BadChunk |
+5;a\n | 4 | BadChunk |
+5;a\rb | 5 | BadChunk |
+1\r\naX | 5 | BadChunk | a
+1\r\na\n | 5 | BadChunk | a
+1\r\na\rX | 6 | BadChunk | a
+1\r\nab\r\n | 5 | BadChunk | a
+0\r\n\n | 4 | BadChunk |
+0\r\nA\0 | 5 | BadChunk |
+0\r\nA\n | 5 | BadChunk |
+0\r\nA\rB | 6 | BadChunk |
+0\r\n\rA | 5 | BadChunk |
+"#;
 
 // The same with at most 31 bytes of data: digits above 9, in both cases.
-const LETTERED: [(&[u8], usize, Option<Cause>, &[u8]); 8] = [
-    (b"a\r\n0123456789\r\n0\r\n\r\n", 20, None, b"0123456789"),
-    (b"A\r\n0123456789\r\n0\r\n\r\n", 20, None, b"0123456789"),
-    (
-        b"0f;A=F\r\n0123456789abcde\r\n0\r\n\r\n",
-        30,
-        None,
-        b"0123456789abcde",
-    ),
-    (
-        b"1F\r\n0123456789012345678901234567890\r\n0\r\n\r\n",
-        42,
-        None,
-        b"0123456789012345678901234567890",
-    ),
-    (
-        b"000000000000001f\r\n0123456789012345678901234567890\r\n0\r\n\r\nPOST",
-        56,
-        None,
-        b"0123456789012345678901234567890",
-    ),
-    (
-        b"F\r\n0123456789abcde\r\ne\r\n0123456789abcd\r\n2\r\n\r\n\r\n0\r\n\r\n",
-        51,
-        None,
-        b"0123456789abcde0123456789abcd\r\n",
-    ),
-    (b"20\r\n", 2, Some(Cause::BodyTooLong), b""),
-    (
-        b"1e\r\n012345678901234567890123456789\r\n2\r\n",
-        37,
-        Some(Cause::BodyTooLong),
-        b"012345678901234567890123456789",
-    ),
-];
+const LETTERED: &str = r"
+a\r\n0123456789\r\n0\r\n\r\n | 20 | - | 0123456789
+A\r\n0123456789\r\n0\r\n\r\n | 20 | - | 0123456789
+0f;A=F\r\n0123456789abcde\r\n0\r\n\r\n | 30 | - | 0123456789abcde
+1F\r\n0123456789012345678901234567890\r\n0\r\n\r\n | 42 | - | 0123456789012345678901234567890
+000000000000001f\r\n0123456789012345678901234567890\r\n0\r\n\r\nPOST | 56 | - | 0123456789012345678901234567890
+F\r\n0123456789abcde\r\ne\r\n0123456789abcd\r\n2\r\n\r\n\r\n0\r\n\r\n | 51 | - | 0123456789abcde0123456789abcd\r\n
+20\r\n | 2 | BodyTooLong |
+1e\r\n012345678901234567890123456789\r\n2\r\n | 37 | BodyTooLong | 012345678901234567890123456789
+";
 
 // A body with a part that is repeated: what stands before it, the part, how often, what follows, and the
 // answer as in the table above.
-const LONG_BODIES: [(&[u8], usize, &[u8], usize, Option<Cause>); 5] = [
-    (b"1;", 255, b"\r\na\r\n0\r\n\r\n", 267, None),
-    (
-        b"1;",
-        256,
-        b"\r\na\r\n0\r\n\r\n",
-        258,
-        Some(Cause::BadChunk),
-    ),
-    (b"0\r\nA", 8191, b"\r\n\r\n", 8199, None),
-    (b"0\r\nA", 8192, b"\r\n\r\n", 8196, Some(Cause::BadChunk)),
-    (
-        b"0\r\n1234\r\n",
-        8189,
-        b"\r\n\r\n",
-        8198,
-        Some(Cause::BadChunk),
-    ),
-];
+const LONG_BODIES: &str = r"
+1; | 255 | \r\na\r\n0\r\n\r\n | 267 | -
+1; | 256 | \r\na\r\n0\r\n\r\n | 258 | BadChunk
+0\r\nA | 8191 | \r\n\r\n | 8199 | -
+0\r\nA | 8192 | \r\n\r\n | 8196 | BadChunk
+0\r\n1234\r\n | 8189 | \r\n\r\n | 8198 | BadChunk
+";
 
 // Whether so many bytes have the answer that is due: in all pieces so far, of which `before` came
 // before the last one.
@@ -179,16 +143,29 @@ fn is_read_however_cut(
     is_read(alloc, limit, text, (0, 1), due, data)
 }
 
+// Whether each row of a table of so many is read so, with at most `limit` bytes of data.
+fn are_read(
+    rt: &impl Abort,
+    alloc: Global,
+    limit: u64,
+    table: &str,
+    count: usize,
+) -> Result<(), Fail> {
+    let rows = rows_of(alloc, table)?;
+    assert_eq!(rt; rows.len(), count);
+    for row in rows.as_slice() {
+        let cells = Cells::new(alloc, row)?;
+        let due = (cells.size(1), cells.cause(2));
+        let right = is_read_however_cut(alloc, limit, cells.at(0), due, Some(cells.at(3)))?;
+        assert!(rt; right, "{row}");
+    }
+    Ok(())
+}
+
 #[test]
-fn bodies_however_they_are_cut(rt: HostRuntime) {
-    for (text, end, cause, data) in BODIES.iter() {
-        let right = is_read_however_cut(rt.alloc(), 5, text, (*end, *cause), Some(data));
-        assert!(&rt; right == Ok(true), "{}", text.len());
-    }
-    for (text, end, cause, data) in LETTERED.iter() {
-        let right = is_read_however_cut(rt.alloc(), 31, text, (*end, *cause), Some(data));
-        assert!(&rt; right == Ok(true), "{}", text.len());
-    }
+fn bodies_however_they_are_cut(rt: HostRuntime) -> Result<(), Fail> {
+    are_read(&rt, rt.alloc(), 5, BODIES, 53)?;
+    are_read(&rt, rt.alloc(), 31, LETTERED, 8)
 }
 
 fn long_body(
@@ -206,132 +183,70 @@ fn long_body(
 }
 
 #[test]
-fn the_limits_edges(rt: HostRuntime) {
-    for (before, times, after, end, cause) in LONG_BODIES.iter() {
-        match long_body(rt.alloc(), before, *times, after) {
-            Ok(text) => {
-                let right = is_read_however_cut(rt.alloc(), 5, &text, (*end, *cause), None);
-                assert!(&rt; right == Ok(true), "{}", times);
-            }
-            Err(_) => panic!(&rt; "no memory"),
-        }
+fn the_limits_edges(rt: HostRuntime) -> Result<(), Fail> {
+    let rows = rows_of(rt.alloc(), LONG_BODIES)?;
+    assert_eq!(rt; rows.len(), 5);
+    for row in rows.as_slice() {
+        let cells = Cells::new(rt.alloc(), row)?;
+        let times = cells.size(1).min(100_000);
+        let text = long_body(rt.alloc(), cells.at(0), times, cells.at(2))?;
+        let due = (cells.size(3), cells.cause(4));
+        let right = is_read_however_cut(rt.alloc(), 5, text.as_slice(), due, None)?;
+        assert!(rt; right, "{row}");
     }
+    Ok(())
 }
 
-// Field lines and the framing that is due in HTTP/1.1, with a limit of 100 bytes.
-const FRAMINGS: [(&[(&[u8], &[u8])], Result<Framing, Cause>); 38] = [
-    (&[], Ok(Framing::Empty)),
-    (&[(b"Content-Lengths", b"3")], Ok(Framing::Empty)),
-    (&[(b"Content-Length", b"3")], Ok(Framing::Length(3))),
-    (&[(b"CONTENT-LENGTH", b" \t3 ")], Ok(Framing::Length(3))),
-    (&[(b"Content-Length", b"0")], Ok(Framing::Length(0))),
-    (&[(b"Content-Length", b"000")], Ok(Framing::Length(0))),
-    (&[(b"Content-Length", b"03")], Ok(Framing::Length(3))),
-    (&[(b"Content-Length", b"100")], Ok(Framing::Length(100))),
-    (&[(b"Content-Length", b"101")], Err(Cause::BodyTooLong)),
-    (
-        &[(b"Content-Length", b"18446744073709551616")],
-        Err(Cause::BodyTooLong),
-    ),
-    (
-        &[(b"Content-Length", b"18446744073709551619")],
-        Err(Cause::BodyTooLong),
-    ),
-    (
-        &[(b"Content-Length", b"00000000000000000003")],
-        Ok(Framing::Length(3)),
-    ),
-    (
-        &[(b"Content-Length", b"99999999999999999999")],
-        Err(Cause::BodyTooLong),
-    ),
-    (&[(b"Content-Length", b"")], Err(Cause::BadFraming)),
-    (&[(b"Content-Length", b" ")], Err(Cause::BadFraming)),
-    (&[(b"Content-Length", b"+3")], Err(Cause::BadFraming)),
-    (&[(b"Content-Length", b"-3")], Err(Cause::BadFraming)),
-    (&[(b"Content-Length", b"3,3")], Err(Cause::BadFraming)),
-    (&[(b"Content-Length", b"0x3")], Err(Cause::BadFraming)),
-    (&[(b"Content-Length", b"3 3")], Err(Cause::BadFraming)),
-    (
-        &[(b"Content-Length", b"3"), (b"content-length", b"003")],
-        Ok(Framing::Length(3)),
-    ),
-    (
-        &[(b"Content-Length", b"3"), (b"Content-Length", b"4")],
-        Err(Cause::BadFraming),
-    ),
-    (
-        &[(b"Content-Length", b"3"), (b"Content-Length", b"")],
-        Err(Cause::BadFraming),
-    ),
-    (
-        &[(b"Content-Length", b"101"), (b"Content-Length", b"3")],
-        Err(Cause::BadFraming),
-    ),
-    (&[(b"Transfer-Encoding", b"chunked")], Ok(Framing::Chunked)),
-    (
-        &[(b"TRANSFER-ENCODING", b", Chunked\t,")],
-        Ok(Framing::Chunked),
-    ),
-    (
-        &[(b"Transfer-Encoding", b"chunked, chunked")],
-        Err(Cause::BadFraming),
-    ),
-    (
-        &[
-            (b"Transfer-Encoding", b"chunked"),
-            (b"Transfer-Encoding", b"chunked"),
-        ],
-        Err(Cause::BadFraming),
-    ),
-    (&[(b"Transfer-Encoding", b"")], Err(Cause::BadFraming)),
-    (&[(b"Transfer-Encoding", b" ,,")], Err(Cause::BadFraming)),
-    (
-        &[(b"Transfer-Encoding", b"gzip")],
-        Err(Cause::CodingUnknown),
-    ),
-    (
-        &[(b"Transfer-Encoding", b"gzip, chunked")],
-        Err(Cause::CodingUnknown),
-    ),
-    (
-        &[(b"Transfer-Encoding", b"chunked, identity")],
-        Err(Cause::CodingUnknown),
-    ),
-    (
-        &[(b"Transfer-Encoding", b"xchunked")],
-        Err(Cause::CodingUnknown),
-    ),
-    (
-        &[(b"Transfer-Encoding", b"chunked;a=b")],
-        Err(Cause::CodingUnknown),
-    ),
-    (
-        &[
-            (b"Transfer-Encoding", b"chunked"),
-            (b"Content-Length", b"3"),
-        ],
-        Err(Cause::BadFraming),
-    ),
-    (
-        &[
-            (b"Content-Length", b"3"),
-            (b"Transfer-Encoding", b"chunked"),
-        ],
-        Err(Cause::BadFraming),
-    ),
-    (
-        &[(b"Content-Length", b"x"), (b"Transfer-Encoding", b"gzip")],
-        Err(Cause::BadFraming),
-    ),
-];
+// The framing that is due in HTTP/1.1, with a limit of 100 bytes, or the cause; and the names and values of the field lines.
+const FRAMINGS: &str = r"
+Empty
+Empty | Content-Lengths | 3
+Length 3 | Content-Length | 3
+Length 3 | CONTENT-LENGTH | \x20\t3\x20
+Length 0 | Content-Length | 0
+Length 0 | Content-Length | 000
+Length 3 | Content-Length | 03
+Length 100 | Content-Length | 100
+BodyTooLong | Content-Length | 101
+BodyTooLong | Content-Length | 18446744073709551616
+BodyTooLong | Content-Length | 18446744073709551619
+Length 3 | Content-Length | 00000000000000000003
+BodyTooLong | Content-Length | 99999999999999999999
+BadFraming | Content-Length |
+BadFraming | Content-Length | \x20
+BadFraming | Content-Length | +3
+BadFraming | Content-Length | -3
+BadFraming | Content-Length | 3,3
+BadFraming | Content-Length | 0x3
+BadFraming | Content-Length | 3 3
+Length 3 | Content-Length | 3 | content-length | 003
+BadFraming | Content-Length | 3 | Content-Length | 4
+BadFraming | Content-Length | 3 | Content-Length |
+BadFraming | Content-Length | 101 | Content-Length | 3
+Chunked | Transfer-Encoding | chunked
+Chunked | TRANSFER-ENCODING | , Chunked\t,
+BadFraming | Transfer-Encoding | chunked, chunked
+BadFraming | Transfer-Encoding | chunked | Transfer-Encoding | chunked
+BadFraming | Transfer-Encoding |
+BadFraming | Transfer-Encoding | \x20,,
+CodingUnknown | Transfer-Encoding | gzip
+CodingUnknown | Transfer-Encoding | gzip, chunked
+CodingUnknown | Transfer-Encoding | chunked, identity
+CodingUnknown | Transfer-Encoding | xchunked
+CodingUnknown | Transfer-Encoding | chunked;a=b
+BadFraming | Transfer-Encoding | chunked | Content-Length | 3
+BadFraming | Content-Length | 3 | Transfer-Encoding | chunked
+BadFraming | Content-Length | x | Transfer-Encoding | gzip
+";
 
-fn head_of(alloc: Global, version: Version, lines: &[(&[u8], &[u8])]) -> Result<Head, NoMemory> {
+fn head_of(alloc: Global, version: Version, row: &Cells) -> Result<Head, NoMemory> {
     let mut fields = Fields::new(alloc);
-    for (name, value) in lines {
-        let name = Bytes::from_slice(alloc, name)?;
-        let value = Bytes::from_slice(alloc, value)?;
-        fields.push(Field { name, value })?;
+    for line in row.from(1).chunks(2) {
+        if let [name, value] = line {
+            let name = Bytes::from_slice(alloc, name.as_slice())?;
+            let value = Bytes::from_slice(alloc, value.as_slice())?;
+            fields.push(Field { name, value })?;
+        }
     }
     Ok(Head {
         method: Bytes::from_slice(alloc, b"POST")?,
@@ -341,26 +256,49 @@ fn head_of(alloc: Global, version: Version, lines: &[(&[u8], &[u8])]) -> Result<
     })
 }
 
-#[test]
-fn how_heads_delimit_their_bodies(rt: HostRuntime) {
+// The framing that a row names, or the cause.
+fn framing_due(row: &Cells) -> Result<Framing, Cause> {
+    let word = row.text(0);
+    match (word, word.strip_prefix("Length ")) {
+        ("Empty", _) => Ok(Framing::Empty),
+        ("Chunked", _) => Ok(Framing::Chunked),
+        (_, Some(count)) => Ok(Framing::Length(count.parse::<u64>().unwrap_or(u64::MAX))),
+        (_, None) => Err(row.cause(0).unwrap_or(Cause::NoOutput)),
+    }
+}
+
+fn is_coded(row: &Cells) -> bool {
+    for line in row.from(1).chunks(2) {
+        if let [name, ..] = line {
+            if name.as_slice().eq_ignore_ascii_case(b"Transfer-Encoding") {
+                return true;
+            }
+        }
+    }
+    false
+}
+
+fn is_framed(alloc: Global, version: Version, row: &Cells) -> Result<bool, NoMemory> {
     let limits = Limits {
         body: 100,
         ..Limits::default()
     };
-    for (lines, framing) in FRAMINGS.iter() {
-        for version in [Version::V10, Version::V11] {
-            let is_coded = lines
-                .iter()
-                .any(|line| line.0.eq_ignore_ascii_case(b"Transfer-Encoding"));
-            let due = if is_coded && version == Version::V10 {
-                Err(Cause::BadFraming)
-            } else {
-                *framing
-            };
-            match head_of(rt.alloc(), version, lines) {
-                Ok(head) => { assert!(&rt; framing_of(&head, &limits) == due, "{}", lines.len()) }
-                Err(_) => panic!(&rt; "no memory"),
-            }
-        }
+    let due = if is_coded(row) && version == Version::V10 {
+        Err(Cause::BadFraming)
+    } else {
+        framing_due(row)
+    };
+    Ok(framing_of(&head_of(alloc, version, row)?, &limits) == due)
+}
+
+#[test]
+fn how_heads_delimit_their_bodies(rt: HostRuntime) -> Result<(), Fail> {
+    let rows = rows_of(rt.alloc(), FRAMINGS)?;
+    assert_eq!(rt; rows.len(), 38);
+    for row in rows.as_slice() {
+        let cells = Cells::new(rt.alloc(), row)?;
+        assert!(rt; is_framed(rt.alloc(), Version::V10, &cells)?, "1.0: {row}");
+        assert!(rt; is_framed(rt.alloc(), Version::V11, &cells)?, "1.1: {row}");
     }
+    Ok(())
 }

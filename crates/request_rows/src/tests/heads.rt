@@ -1,182 +1,75 @@
 // What heads are read as: whole, byte by byte, and cut in two at each place.
+use super::cells::{Cells, rows_of};
 use head_lines::Search;
 use head_reader::{HeadStep, read_head, read_head_from};
 use host_base::{Cause, Limits, NoMemory, Version};
 use std::alloc::Global;
+use std::test::Fail;
 
-const NEVER: usize = 1_000_000;
-
-// Bytes, after how many of them the answer comes, and its cause; no cause for a whole head.
-const HEADS: [(&[u8], usize, Option<Cause>); 36] = [
-    (b"", NEVER, None),
-    (b"\r", NEVER, None),
-    (b"\r\n", NEVER, None),
-    (b"GET / HTTP/1.1\r\n", NEVER, None),
-    (b"GET / HTTP/1.1\r\n\r", NEVER, None),
-    (b"GET / HTTP/1.1\r\n\r\n", 18, None),
-    (b"GET / HTTP/1.0\n\nGET", 16, None),
-    (b"GET / HTTP/1.1\nA: b\r\n\nrest", 22, None),
-    (b"GET / HTTP/1.1\r\nHost: a\r\n\r\nrest", 27, None),
-    (b"GET / HTTP/1.1\r\nA:\r\n\r\n", 22, None),
-    (b"GET / HTTP/1.1\r\nA: \x80\xff\t~\r\n\r\n", 27, None),
-    (b"GET /\xc3\xa9 HTTP/1.1\r\n\r\n", 20, None),
-    (b"\r\nGET / HTTP/1.1\r\n\r\n", 20, None),
-    (b"\r\n\r\nGET / HTTP/1.1\r\n\r\n", 4, Some(Cause::BadHead)),
-    (b"\r\n\nGET / HTTP/1.1\r\n\r\n", 3, Some(Cause::BadHead)),
-    (b"\nGET / HTTP/1.1\r\n\r\n", 1, Some(Cause::BadHead)),
-    (b"\rGET / HTTP/1.1\r\n\r\n", 19, Some(Cause::BadHead)),
-    (b"\r\r\nGET / HTTP/1.1\r\n\r\n", 21, Some(Cause::BadHead)),
-    (b"G\0T / HTTP/1.1\r\n\r\n", 18, Some(Cause::BadHead)),
-    (b"GET / HTTP/1.1\r\nA: \0\r\n\r\n", 24, Some(Cause::BadHead)),
-    (
-        b"GET / HTTP/1.1\r\nA: \x7f\r\n\r\n",
-        24,
-        Some(Cause::BadHead),
-    ),
-    (
-        b"GET / HTTP/1.1\r\nA: b\rc\r\n\r\n",
-        26,
-        Some(Cause::BadHead),
-    ),
-    (
-        b"GET / HTTP/1.1\r\nA: b\r\r\n\r\n",
-        25,
-        Some(Cause::BadHead),
-    ),
-    (
-        b"GET / HTTP/1.1\r\nA: b\r\n c\r\n\r\n",
-        28,
-        Some(Cause::BadHead),
-    ),
-    (b"GET / HTTP/1.1\r\n \r\n\r\n", 21, Some(Cause::BadHead)),
-    (b"GET / HTTP/1.1\r\nA : b\r\n\r\n", 25, Some(Cause::BadHead)),
-    (b"GET / HTTP/1.1\r\n: b\r\n\r\n", 23, Some(Cause::BadHead)),
-    (b"GET / HTTP/1.1\r\nA\r\n\r\n", 21, Some(Cause::BadHead)),
-    (b"GET /\r\n\r\n", 9, Some(Cause::BadHead)),
-    (b"GET / HTTP/0.9\r\n\r\n", 18, Some(Cause::BadHead)),
-    (b"GET / HTTP/1.2\r\n\r\n", 18, Some(Cause::BadHead)),
-    (b"GET / HTTP/2.0\r\n\r\n", 18, Some(Cause::BadHead)),
-    (b"GET / http/1.1\r\n\r\n", 18, Some(Cause::BadHead)),
-    (b"GET  / HTTP/1.1\r\n\r\n", 19, Some(Cause::BadHead)),
-    (b"GET / HTTP/1.1 \r\n\r\n", 19, Some(Cause::BadHead)),
-    (b"GET /\xff HTTP/1.1\r\n\r\n", 19, Some(Cause::BadHead)),
-];
+// Bytes, after how many of them the answer comes (`never`: there is none), and its cause; no cause for a whole head.
+const HEADS: &str = r"
+| never | -
+\r | never | -
+\r\n | never | -
+GET / HTTP/1.1\r\n | never | -
+GET / HTTP/1.1\r\n\r | never | -
+GET / HTTP/1.1\r\n\r\n | 18 | -
+GET / HTTP/1.0\n\nGET | 16 | -
+GET / HTTP/1.1\nA: b\r\n\nrest | 22 | -
+GET / HTTP/1.1\r\nHost: a\r\n\r\nrest | 27 | -
+GET / HTTP/1.1\r\nA:\r\n\r\n | 22 | -
+GET / HTTP/1.1\r\nA: \x80\xff\t~\r\n\r\n | 27 | -
+GET /\xc3\xa9 HTTP/1.1\r\n\r\n | 20 | -
+\r\nGET / HTTP/1.1\r\n\r\n | 20 | -
+\r\n\r\nGET / HTTP/1.1\r\n\r\n | 4 | BadHead
+\r\n\nGET / HTTP/1.1\r\n\r\n | 3 | BadHead
+\nGET / HTTP/1.1\r\n\r\n | 1 | BadHead
+\rGET / HTTP/1.1\r\n\r\n | 19 | BadHead
+\r\r\nGET / HTTP/1.1\r\n\r\n | 21 | BadHead
+G\0T / HTTP/1.1\r\n\r\n | 18 | BadHead
+GET / HTTP/1.1\r\nA: \0\r\n\r\n | 24 | BadHead
+GET / HTTP/1.1\r\nA: \x7f\r\n\r\n | 24 | BadHead
+GET / HTTP/1.1\r\nA: b\rc\r\n\r\n | 26 | BadHead
+GET / HTTP/1.1\r\nA: b\r\r\n\r\n | 25 | BadHead
+GET / HTTP/1.1\r\nA: b\r\n c\r\n\r\n | 28 | BadHead
+GET / HTTP/1.1\r\n \r\n\r\n | 21 | BadHead
+GET / HTTP/1.1\r\nA : b\r\n\r\n | 25 | BadHead
+GET / HTTP/1.1\r\n: b\r\n\r\n | 23 | BadHead
+GET / HTTP/1.1\r\nA\r\n\r\n | 21 | BadHead
+GET /\r\n\r\n | 9 | BadHead
+GET / HTTP/0.9\r\n\r\n | 18 | BadHead
+GET / HTTP/1.2\r\n\r\n | 18 | BadHead
+GET / HTTP/2.0\r\n\r\n | 18 | BadHead
+GET / http/1.1\r\n\r\n | 18 | BadHead
+GET  / HTTP/1.1\r\n\r\n | 19 | BadHead
+GET / HTTP/1.1 \r\n\r\n | 19 | BadHead
+GET /\xff HTTP/1.1\r\n\r\n | 19 | BadHead
+";
 
 // A text with a part that is repeated: what stands before it, the part, how often, what follows, and
 // the answer as in the table above. The limits are the least that a site may have.
-const LONG_HEADS: [(&[u8], &[u8], usize, &[u8], usize, Option<Cause>); 20] = [
-    (
-        b"GET / HTTP/1.1\r\nA: ",
-        b"a",
-        1000,
-        b"\r\n\r\n",
-        1023,
-        None,
-    ),
-    (
-        b"GET / HTTP/1.1\r\nA: ",
-        b"a",
-        1001,
-        b"\r\n\r\n",
-        1024,
-        None,
-    ),
-    (
-        b"GET / HTTP/1.1\r\nA: ",
-        b"a",
-        1002,
-        b"\r\n\r\n",
-        1024,
-        Some(Cause::HeadTooLong),
-    ),
-    (
-        b"\r\nGET / HTTP/1.1\r\nA: ",
-        b"a",
-        1001,
-        b"\r\n\r\n",
-        1026,
-        None,
-    ),
-    (
-        b"\r\nGET / HTTP/1.1\r\nA: ",
-        b"a",
-        1002,
-        b"\r\n\r\n",
-        1026,
-        Some(Cause::HeadTooLong),
-    ),
-    (b"", b"a", 1023, b"", NEVER, None),
-    (b"", b"a", 1024, b"", 1024, Some(Cause::HeadTooLong)),
-    (b"", b"a", 1025, b"\r\n\r\n", 1024, Some(Cause::HeadTooLong)),
-    (b"GET /", b"a", 63, b" HTTP/1.1\r\n\r\n", 81, None),
-    (
-        b"GET /",
-        b"a",
-        64,
-        b" HTTP/1.1\r\n\r\n",
-        82,
-        Some(Cause::TargetTooLong),
-    ),
-    (
-        b"G@T /",
-        b"a",
-        64,
-        b" HTTP/3.0 x\r\n\r\n",
-        84,
-        Some(Cause::TargetTooLong),
-    ),
-    (b"GET / HTTP/1.1\r\n", b"A:\r\n", 100, b"\r\n", 418, None),
-    (
-        b"GET / HTTP/1.1\r\n",
-        b"A:\r\n",
-        101,
-        b"\r\n",
-        422,
-        Some(Cause::TooManyFields),
-    ),
-    (
-        b"GET / HTTP/3.0\r\n",
-        b"A\0\r\n",
-        101,
-        b"\r\n",
-        422,
-        Some(Cause::TooManyFields),
-    ),
-    (
-        b"GET /aaaaaaaaaaaaaaaaaaaaaaaaaaaaaaaaaaaaaaaaaaaaaaaaaaaaaaaaaaaaaaaa HTTP/1.1\r\n",
-        b"A:\r\n",
-        101,
-        b"\r\n",
-        486,
-        Some(Cause::TargetTooLong),
-    ),
-    (
-        b"GET /aaaaaaaaaaaaaaaaaaaaaaaaaaaaaaaaaaaaaaaaaaaaaaaaaaaaaaaaaaaaaaaa\r\n",
-        b"A:\r\n",
-        101,
-        b"\r\n",
-        477,
-        Some(Cause::TooManyFields),
-    ),
-    (b"GET /", b"a", 64, b"\r\n\r\n", 73, Some(Cause::BadHead)),
-    (
-        b"GET /",
-        b"a",
-        64,
-        b" \r\n\r\n",
-        74,
-        Some(Cause::TargetTooLong),
-    ),
-    (b" ", b"a", 65, b" \r\n\r\n", 71, Some(Cause::TargetTooLong)),
-    (
-        b"G",
-        b"a",
-        65,
-        b" / HTTP/3.0\r\n\r\n",
-        81,
-        Some(Cause::BadHead),
-    ),
-];
+const LONG_HEADS: &str = r"
+GET / HTTP/1.1\r\nA:\x20 | a | 1000 | \r\n\r\n | 1023 | -
+GET / HTTP/1.1\r\nA:\x20 | a | 1001 | \r\n\r\n | 1024 | -
+GET / HTTP/1.1\r\nA:\x20 | a | 1002 | \r\n\r\n | 1024 | HeadTooLong
+\r\nGET / HTTP/1.1\r\nA:\x20 | a | 1001 | \r\n\r\n | 1026 | -
+\r\nGET / HTTP/1.1\r\nA:\x20 | a | 1002 | \r\n\r\n | 1026 | HeadTooLong
+| a | 1023 |  | never | -
+| a | 1024 |  | 1024 | HeadTooLong
+| a | 1025 | \r\n\r\n | 1024 | HeadTooLong
+GET / | a | 63 | \x20HTTP/1.1\r\n\r\n | 81 | -
+GET / | a | 64 | \x20HTTP/1.1\r\n\r\n | 82 | TargetTooLong
+G@T / | a | 64 | \x20HTTP/3.0 x\r\n\r\n | 84 | TargetTooLong
+GET / HTTP/1.1\r\n | A:\r\n | 100 | \r\n | 418 | -
+GET / HTTP/1.1\r\n | A:\r\n | 101 | \r\n | 422 | TooManyFields
+GET / HTTP/3.0\r\n | A\0\r\n | 101 | \r\n | 422 | TooManyFields
+GET /aaaaaaaaaaaaaaaaaaaaaaaaaaaaaaaaaaaaaaaaaaaaaaaaaaaaaaaaaaaaaaaa HTTP/1.1\r\n | A:\r\n | 101 | \r\n | 486 | TargetTooLong
+GET /aaaaaaaaaaaaaaaaaaaaaaaaaaaaaaaaaaaaaaaaaaaaaaaaaaaaaaaaaaaaaaaa\r\n | A:\r\n | 101 | \r\n | 477 | TooManyFields
+GET / | a | 64 | \r\n\r\n | 73 | BadHead
+GET / | a | 64 | \x20\r\n\r\n | 74 | TargetTooLong
+\x20 | a | 65 | \x20\r\n\r\n | 71 | TargetTooLong
+G | a | 65 | \x20/ HTTP/3.0\r\n\r\n | 81 | BadHead
+";
 
 fn least_limits() -> Limits {
     Limits {
@@ -247,41 +140,38 @@ fn is_right_in_two(
     Ok(is_right(&read_head(alloc, text, &limits)?, text.len(), end, cause))
 }
 
-#[test]
-fn heads_and_causes_however_they_are_cut(rt: HostRuntime) {
-    for (text, end, cause) in HEADS.iter() {
-        assert!(&rt;
-            is_right_by_bytes(rt.alloc(), text, *end, *cause) == Ok(true),
-            "{}",
-            end
-        );
-        assert!(&rt;
-            is_right_in_two(rt.alloc(), text, *end, *cause) == Ok(true),
-            "{}",
-            end
-        );
-    }
+fn is_head_row(alloc: Global, row: &str) -> Result<bool, NoMemory> {
+    let cells = Cells::new(alloc, row)?;
+    let (text, end, cause) = (cells.at(0), cells.size(1), cells.cause(2));
+    Ok(is_right_by_bytes(alloc, text, end, cause)? && is_right_in_two(alloc, text, end, cause)?)
 }
 
 #[test]
-fn the_limits_edges_however_they_are_cut(rt: HostRuntime) {
-    for (before, part, times, after, end, cause) in LONG_HEADS.iter() {
-        match repeated(rt.alloc(), before, part, *times, after) {
-            Ok(text) => {
-                assert!(&rt;
-                    is_right_by_bytes(rt.alloc(), &text, *end, *cause) == Ok(true),
-                    "{}",
-                    times
-                );
-                assert!(&rt;
-                    is_right_in_two(rt.alloc(), &text, *end, *cause) == Ok(true),
-                    "{}",
-                    times
-                );
-            }
-            Err(_) => panic!(&rt; "no memory"),
-        }
+fn heads_and_causes_however_they_are_cut(rt: HostRuntime) -> Result<(), Fail> {
+    let rows = rows_of(rt.alloc(), HEADS)?;
+    assert_eq!(rt; rows.len(), 36);
+    for row in rows.as_slice() {
+        assert!(rt; is_head_row(rt.alloc(), row)?, "{row}");
     }
+    Ok(())
+}
+
+fn is_long_head_row(alloc: Global, row: &str) -> Result<bool, NoMemory> {
+    let cells = Cells::new(alloc, row)?;
+    let times = cells.size(2).min(100_000);
+    let text = repeated(alloc, cells.at(0), cells.at(1), times, cells.at(3))?;
+    let (text, end, cause) = (text.as_slice(), cells.size(4), cells.cause(5));
+    Ok(is_right_by_bytes(alloc, text, end, cause)? && is_right_in_two(alloc, text, end, cause)?)
+}
+
+#[test]
+fn the_limits_edges_however_they_are_cut(rt: HostRuntime) -> Result<(), Fail> {
+    let rows = rows_of(rt.alloc(), LONG_HEADS)?;
+    assert_eq!(rt; rows.len(), 20);
+    for row in rows.as_slice() {
+        assert!(rt; is_long_head_row(rt.alloc(), row)?, "{row}");
+    }
+    Ok(())
 }
 
 #[test]

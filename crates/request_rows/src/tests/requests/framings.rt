@@ -1,156 +1,83 @@
 // Requests whose body has two readings, or is none.
+use super::super::cells::{Cells, rows_of};
 use super::reading::is_refused;
-use host_base::Cause;
+use std::alloc::Global;
+use std::test::Fail;
 
 // Bytes in which one reader could find a body by its length and another one by its chunks, or a field
 // line that one of them overlooks (RFC 9112 5.1, 5.2, 6.1, 6.3 and 11.2): the cause by which they are
-// refused.
-const SMUGGLED: [(&[u8], Cause); 23] = [
-    (
-        b"POST / HTTP/1.1\r\nHost: a\r\nContent-Length: 6\r\nTransfer-Encoding: chunked\r\n\r\n0\r\n\r\nG",
-        Cause::BadFraming,
-    ),
-    (
-        b"POST / HTTP/1.1\r\nHost: a\r\nTransfer-Encoding: chunked\r\nContent-Length: 4\r\n\r\n1\r\nZ\r\n0\r\n\r\n",
-        Cause::BadFraming,
-    ),
-    (
-        b"POST / HTTP/1.1\r\nHost: a\r\nTransfer-Encoding: chunked\r\nTransfer-Encoding: identity\r\n\r\n0\r\n\r\n",
-        Cause::CodingUnknown,
-    ),
-    (
-        b"POST / HTTP/1.1\r\nHost: a\r\nTransfer-Encoding: chunked\r\nTransfer-Encoding: chunked\r\n\r\n0\r\n\r\n",
-        Cause::BadFraming,
-    ),
-    (
-        b"POST / HTTP/1.1\r\nHost: a\r\nTransfer-Encoding: xchunked\r\n\r\n0\r\n\r\n",
-        Cause::CodingUnknown,
-    ),
-    (
-        b"POST / HTTP/1.1\r\nHost: a\r\nTransfer-Encoding: gzip, chunked\r\n\r\n0\r\n\r\n",
-        Cause::CodingUnknown,
-    ),
-    (
-        b"POST / HTTP/1.1\r\nHost: a\r\nTransfer-Encoding: \"chunked\"\r\n\r\n0\r\n\r\n",
-        Cause::CodingUnknown,
-    ),
-    (
-        b"POST / HTTP/1.1\r\nHost: a\r\nTransfer-Encoding:\r\n\r\n0\r\n\r\n",
-        Cause::BadFraming,
-    ),
-    (
-        b"POST / HTTP/1.1\r\nHost: a\r\nTransfer-Encoding: gzip\r\n\r\n0\r\n\r\n",
-        Cause::CodingUnknown,
-    ),
-    (
-        b"POST / HTTP/1.1\r\nHost: a\r\nTransfer-Encoding: chunked, chunked\r\n\r\n0\r\n\r\n",
-        Cause::BadFraming,
-    ),
-    (
-        b"POST / HTTP/1.1\r\nHost: a\r\nTransfer-Encoding: chunked, identity\r\n\r\n0\r\n\r\n",
-        Cause::CodingUnknown,
-    ),
-    (
-        b"POST / HTTP/1.1\r\nHost: a\r\nTransfer-Encoding: chunked;a=b\r\n\r\n0\r\n\r\n",
-        Cause::CodingUnknown,
-    ),
-    (
-        b"POST / HTTP/1.1\r\nHost: a\r\nContent-Length: 5\r\nTransfer-Encoding: gzip\r\n\r\n0\r\n\r\n",
-        Cause::BadFraming,
-    ),
-    (
-        b"POST / HTTP/1.0\r\nContent-Length: 5\r\nTransfer-Encoding: chunked\r\n\r\n0\r\n\r\n",
-        Cause::BadFraming,
-    ),
-    (
-        b"POST / HTTP/1.0\r\nTransfer-Encoding: chunked\r\n\r\n0\r\n\r\n",
-        Cause::BadFraming,
-    ),
-    (
-        b"POST / HTTP/1.1\r\nHost: a\r\nTransfer-Encoding : chunked\r\n\r\n0\r\n\r\n",
-        Cause::BadHead,
-    ),
-    (
-        b"POST / HTTP/1.1\r\nHost: a\r\nContent-Length : 6\r\n\r\n0\r\n\r\nG",
-        Cause::BadHead,
-    ),
-    (
-        b"POST / HTTP/1.1\r\nHost: a\r\n Transfer-Encoding: chunked\r\n\r\n0\r\n\r\n",
-        Cause::BadHead,
-    ),
-    (
-        b"POST / HTTP/1.1\r\nHost: a\r\nTransfer-Encoding:\r\n chunked\r\n\r\n0\r\n\r\n",
-        Cause::BadHead,
-    ),
-    (
-        b"POST / HTTP/1.1\r\n X: y\r\nHost: a\r\nTransfer-Encoding: chunked\r\n\r\n0\r\n\r\n",
-        Cause::BadHead,
-    ),
-    (
-        b"POST / HTTP/1.1\r\nHost: a\r\nTransfer-Encoding: \x0bchunked\r\n\r\n0\r\n\r\n",
-        Cause::BadHead,
-    ),
-    (
-        b"POST / HTTP/1.1\r\nHost: a\r\nX: y\rTransfer-Encoding: chunked\r\n\r\n0\r\n\r\n",
-        Cause::BadHead,
-    ),
-    (
-        b"POST / HTTP/1.1\r\nHost: a\r\nTransfer-Encoding\0: chunked\r\n\r\n0\r\n\r\n",
-        Cause::BadHead,
-    ),
-];
+// refused, and the bytes.
+const SMUGGLED: &str = r#"
+BadFraming | POST / HTTP/1.1\r\nHost: a\r\nContent-Length: 6\r\nTransfer-Encoding: chunked\r\n\r\n0\r\n\r\nG
+BadFraming | POST / HTTP/1.1\r\nHost: a\r\nTransfer-Encoding: chunked\r\nContent-Length: 4\r\n\r\n1\r\nZ\r\n0\r\n\r\n
+CodingUnknown | POST / HTTP/1.1\r\nHost: a\r\nTransfer-Encoding: chunked\r\nTransfer-Encoding: identity\r\n\r\n0\r\n\r\n
+BadFraming | POST / HTTP/1.1\r\nHost: a\r\nTransfer-Encoding: chunked\r\nTransfer-Encoding: chunked\r\n\r\n0\r\n\r\n
+CodingUnknown | POST / HTTP/1.1\r\nHost: a\r\nTransfer-Encoding: xchunked\r\n\r\n0\r\n\r\n
+CodingUnknown | POST / HTTP/1.1\r\nHost: a\r\nTransfer-Encoding: gzip, chunked\r\n\r\n0\r\n\r\n
+CodingUnknown | POST / HTTP/1.1\r\nHost: a\r\nTransfer-Encoding: "chunked"\r\n\r\n0\r\n\r\n
+BadFraming | POST / HTTP/1.1\r\nHost: a\r\nTransfer-Encoding:\r\n\r\n0\r\n\r\n
+CodingUnknown | POST / HTTP/1.1\r\nHost: a\r\nTransfer-Encoding: gzip\r\n\r\n0\r\n\r\n
+BadFraming | POST / HTTP/1.1\r\nHost: a\r\nTransfer-Encoding: chunked, chunked\r\n\r\n0\r\n\r\n
+CodingUnknown | POST / HTTP/1.1\r\nHost: a\r\nTransfer-Encoding: chunked, identity\r\n\r\n0\r\n\r\n
+CodingUnknown | POST / HTTP/1.1\r\nHost: a\r\nTransfer-Encoding: chunked;a=b\r\n\r\n0\r\n\r\n
+BadFraming | POST / HTTP/1.1\r\nHost: a\r\nContent-Length: 5\r\nTransfer-Encoding: gzip\r\n\r\n0\r\n\r\n
+BadFraming | POST / HTTP/1.0\r\nContent-Length: 5\r\nTransfer-Encoding: chunked\r\n\r\n0\r\n\r\n
+BadFraming | POST / HTTP/1.0\r\nTransfer-Encoding: chunked\r\n\r\n0\r\n\r\n
+BadHead | POST / HTTP/1.1\r\nHost: a\r\nTransfer-Encoding : chunked\r\n\r\n0\r\n\r\n
+BadHead | POST / HTTP/1.1\r\nHost: a\r\nContent-Length : 6\r\n\r\n0\r\n\r\nG
+BadHead | POST / HTTP/1.1\r\nHost: a\r\n Transfer-Encoding: chunked\r\n\r\n0\r\n\r\n
+BadHead | POST / HTTP/1.1\r\nHost: a\r\nTransfer-Encoding:\r\n chunked\r\n\r\n0\r\n\r\n
+BadHead | POST / HTTP/1.1\r\n X: y\r\nHost: a\r\nTransfer-Encoding: chunked\r\n\r\n0\r\n\r\n
+BadHead | POST / HTTP/1.1\r\nHost: a\r\nTransfer-Encoding: \x0bchunked\r\n\r\n0\r\n\r\n
+BadHead | POST / HTTP/1.1\r\nHost: a\r\nX: y\rTransfer-Encoding: chunked\r\n\r\n0\r\n\r\n
+BadHead | POST / HTTP/1.1\r\nHost: a\r\nTransfer-Encoding\0: chunked\r\n\r\n0\r\n\r\n
+"#;
 
-// Requests with a fault in their chunks, and the cause.
-const BAD_BODIES: [(&[u8], Cause, bool); 7] = [
-    (
-        b"POST / HTTP/1.1\r\nHost: a\r\nTransfer-Encoding: chunked\r\n\r\n2\r\nab\n0\r\n\r\n",
-        Cause::BadChunk,
-        false,
-    ),
-    (
-        b"POST / HTTP/1.1\r\nHost: a\r\nTransfer-Encoding: chunked\r\n\r\n 2\r\nab\r\n",
-        Cause::BadChunk,
-        false,
-    ),
-    (
-        b"HEAD / HTTP/1.1\r\nHost: a\r\nTransfer-Encoding: chunked\r\n\r\n1\r\nab\r\n",
-        Cause::BadChunk,
-        true,
-    ),
-    (
-        b"POST / HTTP/1.1\r\nHost: a\r\nTransfer-Encoding: chunked\r\n\r\n29",
-        Cause::BodyTooLong,
-        false,
-    ),
-    (
-        b"HEAD / HTTP/1.1\r\nHost: a\r\nTransfer-Encoding: chunked\r\n\r\n1\r\na\r\n28",
-        Cause::BodyTooLong,
-        true,
-    ),
-    (
-        b"POST / HTTP/1.1\r\nHost: a\r\nTransfer-Encoding: chunked\r\n\r\n10000000000000001\r\n",
-        Cause::BodyTooLong,
-        false,
-    ),
-    (
-        b"POST / HTTP/1.1\r\nHost: a\r\nExpect: 100-continue\r\nTransfer-Encoding: chunked\r\n\r\nx",
-        Cause::BadChunk,
-        false,
-    ),
-];
+// The cause of a fault in the chunks of a request, whether a reply has no body, and the request.
+const BAD_BODIES: &str = r"
+BadChunk | no | POST / HTTP/1.1\r\nHost: a\r\nTransfer-Encoding: chunked\r\n\r\n2\r\nab\n0\r\n\r\n
+BadChunk | no | POST / HTTP/1.1\r\nHost: a\r\nTransfer-Encoding: chunked\r\n\r\n 2\r\nab\r\n
+BadChunk | yes | HEAD / HTTP/1.1\r\nHost: a\r\nTransfer-Encoding: chunked\r\n\r\n1\r\nab\r\n
+BodyTooLong | no | POST / HTTP/1.1\r\nHost: a\r\nTransfer-Encoding: chunked\r\n\r\n29
+BodyTooLong | yes | HEAD / HTTP/1.1\r\nHost: a\r\nTransfer-Encoding: chunked\r\n\r\n1\r\na\r\n28
+BodyTooLong | no | POST / HTTP/1.1\r\nHost: a\r\nTransfer-Encoding: chunked\r\n\r\n10000000000000001\r\n
+BadChunk | no | POST / HTTP/1.1\r\nHost: a\r\nExpect: 100-continue\r\nTransfer-Encoding: chunked\r\n\r\nx
+";
 
-#[test]
-fn what_has_two_readings_is_refused(rt: HostRuntime) {
-    for (text, cause) in SMUGGLED.iter() {
-        let right = is_refused(rt.alloc(), text, *cause, false, Some((true, text.len())));
-        assert!(&rt; right, "{}", text.len());
+fn is_smuggled(alloc: Global, row: &Cells) -> bool {
+    let text = row.at(1);
+    match row.cause(0) {
+        Some(cause) => is_refused(alloc, text, cause, false, Some((true, text.len()))),
+        None => false,
     }
 }
 
 #[test]
-fn chunks_that_are_none(rt: HostRuntime) {
-    for (text, cause, bare) in BAD_BODIES.iter() {
-        let right = is_refused(rt.alloc(), text, *cause, *bare, None);
-        assert!(&rt; right, "{}", text.len());
+fn what_has_two_readings_is_refused(rt: HostRuntime) -> Result<(), Fail> {
+    let rows = rows_of(rt.alloc(), SMUGGLED)?;
+    assert_eq!(rt; rows.len(), 23);
+    for row in rows.as_slice() {
+        let cells = Cells::new(rt.alloc(), row)?;
+        assert!(rt; is_smuggled(rt.alloc(), &cells), "{row}");
     }
+    Ok(())
+}
+
+fn is_bad_body(alloc: Global, row: &Cells) -> bool {
+    let text = row.at(2);
+    match row.cause(0) {
+        Some(cause) => is_refused(alloc, text, cause, row.is_yes(1), None),
+        None => false,
+    }
+}
+
+#[test]
+fn chunks_that_are_none(rt: HostRuntime) -> Result<(), Fail> {
+    let rows = rows_of(rt.alloc(), BAD_BODIES)?;
+    assert_eq!(rt; rows.len(), 7);
+    for row in rows.as_slice() {
+        let cells = Cells::new(rt.alloc(), row)?;
+        assert!(rt; is_bad_body(rt.alloc(), &cells), "{row}");
+    }
+    Ok(())
 }

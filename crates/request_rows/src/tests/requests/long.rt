@@ -1,43 +1,21 @@
 // Long lines of a body, long pipelines and a long head.
+use super::super::cells::{Cells, rows_of};
 use super::reading::{
-    Due, Expected, LIMITS, is_answered_however_cut, is_refused, next_whole, push_times,
+    Expected, LIMITS, is_answered_however_cut, is_refused, next_whole, push_times,
 };
 use host_base::Cause;
 use request_reader::ReqReader;
 use std::alloc::Global;
+use std::test::Fail;
 
-// Requests whose body has a long line: what stands before it, how many bytes of it follow, what stands
-// behind them, the requests that are given, and the fault.
-const LONG_LINES: [(&[u8], usize, &[u8], &[Due], Option<(Cause, bool)>); 4] = [
-    (
-        b"POST / HTTP/1.1\r\nHost: a\r\nTransfer-Encoding: chunked\r\n\r\n1;",
-        255,
-        b"\r\na\r\n0\r\n\r\n",
-        &[(b"/", b"a")],
-        None,
-    ),
-    (
-        b"POST / HTTP/1.1\r\nHost: a\r\nTransfer-Encoding: chunked\r\n\r\n1;",
-        256,
-        b"\r\na\r\n0\r\n\r\n",
-        &[],
-        Some((Cause::BadChunk, false)),
-    ),
-    (
-        b"POST / HTTP/1.1\r\nHost: a\r\nTransfer-Encoding: chunked\r\n\r\n1\r\na\r\n0\r\nA",
-        8191,
-        b"\r\n\r\n",
-        &[(b"/", b"a")],
-        None,
-    ),
-    (
-        b"HEAD / HTTP/1.1\r\nHost: a\r\nTransfer-Encoding: chunked\r\n\r\n0\r\nA",
-        8192,
-        b"\r\n\r\n",
-        &[],
-        Some((Cause::BadChunk, true)),
-    ),
-];
+// Requests whose body has a long line: what stands before it, how many bytes of it follow, what stands behind them, the cause of the
+// fault, or `-`, whether a reply has no body, and the paths and bodies of the requests that are given.
+const LONG_LINES: &str = r"
+POST / HTTP/1.1\r\nHost: a\r\nTransfer-Encoding: chunked\r\n\r\n1; | 255 | \r\na\r\n0\r\n\r\n | - | no | / | a
+POST / HTTP/1.1\r\nHost: a\r\nTransfer-Encoding: chunked\r\n\r\n1; | 256 | \r\na\r\n0\r\n\r\n | BadChunk | no
+POST / HTTP/1.1\r\nHost: a\r\nTransfer-Encoding: chunked\r\n\r\n1\r\na\r\n0\r\nA | 8191 | \r\n\r\n | - | no | / | a
+HEAD / HTTP/1.1\r\nHost: a\r\nTransfer-Encoding: chunked\r\n\r\n0\r\nA | 8192 | \r\n\r\n | BadChunk | yes
+";
 
 fn is_long_line(
     alloc: Global,
@@ -52,22 +30,39 @@ fn is_long_line(
     copied && is_answered_however_cut(alloc, text.as_slice(), expected)
 }
 
+fn is_long_line_row(alloc: Global, row: &Cells) -> bool {
+    let fault = match row.cause(3) {
+        Some(cause) => Some((cause, row.is_yes(4))),
+        None => None,
+    };
+    let expected = Expected {
+        due: row.from(5),
+        followed: false,
+        fault,
+        left: if fault.is_some() {
+            None
+        } else {
+            Some((false, 0))
+        },
+    };
+    is_long_line(
+        alloc,
+        row.at(0),
+        row.size(1).min(100_000),
+        row.at(2),
+        expected,
+    )
+}
+
 #[test]
-fn long_lines_however_they_are_cut(rt: HostRuntime) {
-    for (before, times, after, due, fault) in LONG_LINES.iter() {
-        let expected = Expected {
-            due,
-            followed: false,
-            fault: *fault,
-            left: if fault.is_some() {
-                None
-            } else {
-                Some((false, 0))
-            },
-        };
-        let right = is_long_line(rt.alloc(), before, *times, after, expected);
-        assert!(&rt; right, "{times}");
+fn long_lines_however_they_are_cut(rt: HostRuntime) -> Result<(), Fail> {
+    let rows = rows_of(rt.alloc(), LONG_LINES)?;
+    assert_eq!(rt; rows.len(), 4);
+    for row in rows.as_slice() {
+        let cells = Cells::new(rt.alloc(), row)?;
+        assert!(rt; is_long_line_row(rt.alloc(), &cells), "{row}");
     }
+    Ok(())
 }
 
 // How many whole requests there are now.

@@ -1,8 +1,10 @@
 // Which requests end the connection, and what a local redirect keeps of one.
+use super::super::cells::{Cells, rows_of};
 use super::reading::{LIMITS, next_whole};
 use host_base::{Bytes, Field, NoMemory, Request, Target};
 use request_reader::{ReqReader, persists, redirected};
 use std::alloc::Global;
+use std::test::Fail;
 
 // The one request of a text.
 fn request_of(alloc: Global, text: &[u8]) -> Option<Request> {
@@ -13,34 +15,19 @@ fn request_of(alloc: Global, text: &[u8]) -> Option<Request> {
     next_whole(&mut reader)
 }
 
-// Heads, and whether another request may follow on the connection.
-const LASTING: [(&[u8], bool); 10] = [
-    (b"GET / HTTP/1.1\r\nHost: a\r\n\r\n", true),
-    (b"GET / HTTP/1.0\r\nHost: a\r\n\r\n", false),
-    (b"GET / HTTP/1.0\r\nConnection: keep-alive\r\n\r\n", false),
-    (
-        b"GET / HTTP/1.1\r\nHost: a\r\nConnection: close\r\n\r\n",
-        false,
-    ),
-    (
-        b"GET / HTTP/1.1\r\nHost: a\r\nCONNECTION: Close\r\n\r\n",
-        false,
-    ),
-    (
-        b"GET / HTTP/1.1\r\nHost: a\r\nConnection: upgrade,\tCLOSE ,\r\n\r\n",
-        false,
-    ),
-    (
-        b"GET / HTTP/1.1\r\nHost: a\r\nConnection: a\r\nConnection: close\r\n\r\n",
-        false,
-    ),
-    (
-        b"GET / HTTP/1.1\r\nHost: a\r\nConnection: closed, a close\r\n\r\n",
-        true,
-    ),
-    (b"GET / HTTP/1.1\r\nHost: a\r\nConnection: ,,\r\n\r\n", true),
-    (b"GET / HTTP/1.1\r\nHost: a\r\nClose: close\r\n\r\n", true),
-];
+// Whether another request may follow on the connection, and the head.
+const LASTING: &str = r"
+yes | GET / HTTP/1.1\r\nHost: a\r\n\r\n
+no | GET / HTTP/1.0\r\nHost: a\r\n\r\n
+no | GET / HTTP/1.0\r\nConnection: keep-alive\r\n\r\n
+no | GET / HTTP/1.1\r\nHost: a\r\nConnection: close\r\n\r\n
+no | GET / HTTP/1.1\r\nHost: a\r\nCONNECTION: Close\r\n\r\n
+no | GET / HTTP/1.1\r\nHost: a\r\nConnection: upgrade,\tCLOSE ,\r\n\r\n
+no | GET / HTTP/1.1\r\nHost: a\r\nConnection: a\r\nConnection: close\r\n\r\n
+yes | GET / HTTP/1.1\r\nHost: a\r\nConnection: closed, a close\r\n\r\n
+yes | GET / HTTP/1.1\r\nHost: a\r\nConnection: ,,\r\n\r\n
+yes | GET / HTTP/1.1\r\nHost: a\r\nClose: close\r\n\r\n
+";
 
 fn is_lasting(alloc: Global, text: &[u8], lasting: bool) -> bool {
     match request_of(alloc, text) {
@@ -50,30 +37,29 @@ fn is_lasting(alloc: Global, text: &[u8], lasting: bool) -> bool {
 }
 
 #[test]
-fn which_requests_end_the_connection(rt: HostRuntime) {
-    for (text, lasting) in LASTING.iter() {
-        assert!(&rt; is_lasting(rt.alloc(), text, *lasting), "{}", text.len());
+fn which_requests_end_the_connection(rt: HostRuntime) -> Result<(), Fail> {
+    let rows = rows_of(rt.alloc(), LASTING)?;
+    assert_eq!(rt; rows.len(), 10);
+    for row in rows.as_slice() {
+        let cells = Cells::new(rt.alloc(), row)?;
+        assert!(rt;
+            is_lasting(rt.alloc(), cells.at(1), cells.is_yes(0)),
+            "{row}"
+        );
     }
+    Ok(())
 }
 
 // Requests, the method after a local redirect, and the names of the field lines that are kept.
-const REDIRECTS: [(&[u8], &[u8], &[&[u8]]); 3] = [
-    (
-        b"HEAD / HTTP/1.1\r\nHost: a\r\nX: y\r\nhost2: a\r\n\r\n",
-        b"HEAD",
-        &[b"Host", b"X", b"host2"],
-    ),
-    (b"head / HTTP/1.1\r\nHost: a\r\n\r\n", b"GET", &[b"Host"]),
-    (
-        b"POST / HTTP/1.1\r\ncontent-LENGTH: 2\r\nContent-Type: a\r\nExpect: 100-continue\r\nCookie: c\r\nUpgrade: w\r\nConnection: close\r\nsec-websocket-Key: k\r\nSec-WebSocket-: k\r\nSec-WebSocket: kept\r\nContent: kept\r\nHost: a\r\n\r\nab",
-        b"GET",
-        &[b"Cookie", b"Sec-WebSocket", b"Content", b"Host"],
-    ),
-];
+const REDIRECTS: &str = r"
+HEAD / HTTP/1.1\r\nHost: a\r\nX: y\r\nhost2: a\r\n\r\n | HEAD | Host | X | host2
+head / HTTP/1.1\r\nHost: a\r\n\r\n | GET | Host
+POST / HTTP/1.1\r\ncontent-LENGTH: 2\r\nContent-Type: a\r\nExpect: 100-continue\r\nCookie: c\r\nUpgrade: w\r\nConnection: close\r\nsec-websocket-Key: k\r\nSec-WebSocket-: k\r\nSec-WebSocket: kept\r\nContent: kept\r\nHost: a\r\n\r\nab | GET | Cookie | Sec-WebSocket | Content | Host
+";
 
-fn has_names(fields: &[Field], names: &[&[u8]]) -> bool {
+fn has_names(fields: &[Field], names: &[Vec<u8>]) -> bool {
     for (field, name) in fields.iter().zip(names.iter()) {
-        if field.name.as_slice() != *name {
+        if field.name.as_slice() != name.as_slice() {
             return false;
         }
     }
@@ -99,7 +85,7 @@ fn redirect_of(alloc: Global, request: &Request) -> Result<Request, NoMemory> {
     redirected(alloc, request, new_target(alloc)?)
 }
 
-fn is_redirected(alloc: Global, text: &[u8], method: &[u8], names: &[&[u8]]) -> bool {
+fn is_redirected(alloc: Global, text: &[u8], method: &[u8], names: &[Vec<u8>]) -> bool {
     let Some(request) = request_of(alloc, text) else {
         return false;
     };
@@ -110,12 +96,13 @@ fn is_redirected(alloc: Global, text: &[u8], method: &[u8], names: &[&[u8]]) -> 
 }
 
 #[test]
-fn what_a_local_redirect_keeps(rt: HostRuntime) {
-    for (text, method, names) in REDIRECTS.iter() {
-        assert!(&rt;
-            is_redirected(rt.alloc(), text, method, names),
-            "{}",
-            text.len()
-        );
+fn what_a_local_redirect_keeps(rt: HostRuntime) -> Result<(), Fail> {
+    let rows = rows_of(rt.alloc(), REDIRECTS)?;
+    assert_eq!(rt; rows.len(), 3);
+    for row in rows.as_slice() {
+        let cells = Cells::new(rt.alloc(), row)?;
+        let right = is_redirected(rt.alloc(), cells.at(0), cells.at(1), cells.from(2));
+        assert!(rt; right, "{row}");
     }
+    Ok(())
 }

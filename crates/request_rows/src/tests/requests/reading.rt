@@ -17,49 +17,44 @@ pub const LIMITS: Limits = Limits {
     ws_text: 65_536,
 };
 
-// The path and the body of a request.
-pub type Due = (&'static [u8], &'static [u8]);
-
 // Another request, and what is due of it.
 pub const NEXT: &[u8] = b"\r\nGET /next HTTP/1.0\r\n\r\n";
 
-const NEXT_DUE: Due = (b"/next", b"");
-
-// What is due of a text: the requests that are given, whether NEXT follows them, and the fault behind them; then whether
+// What is due of a text: the paths and bodies of the requests that are given, whether NEXT follows them, and the fault behind them; then whether
 // another request has begun and how many bytes are left, or that one has begun.
 #[derive(Clone, Copy)]
-pub struct Expected {
-    pub due: &'static [Due],
+pub struct Expected<'t> {
+    pub due: &'t [Vec<u8>],
     pub followed: bool,
     pub fault: Option<(Cause, bool)>,
     pub left: Option<(bool, usize)>,
 }
 
-impl Expected {
-    fn due_at(self, at: usize) -> Option<Due> {
-        match self.due.get(at) {
-            Some(due) => Some(*due),
-            None if self.followed && at == self.due.len() => Some(NEXT_DUE),
+impl<'t> Expected<'t> {
+    fn due_at(self, place: usize) -> Option<&'t [u8]> {
+        match self.due.get(place) {
+            Some(due) => Some(due.as_slice()),
             None => None,
         }
     }
 
     fn count(self) -> usize {
-        if self.followed {
-            self.due.len().saturating_add(1)
-        } else {
-            self.due.len()
+        (self.due.len() / 2).saturating_add(if self.followed { 1 } else { 0 })
+    }
+
+    // Whether the request is the one that is due at this place.
+    fn is_due(self, request: &Request, at: usize) -> bool {
+        let path = self.due_at(at.saturating_mul(2));
+        let body = self.due_at(at.saturating_mul(2).saturating_add(1));
+        match (path, body) {
+            (Some(path), Some(body)) => is_request(request, path, body),
+            _ => self.followed && at == self.due.len() / 2 && is_request(request, b"/next", b""),
         }
     }
 }
 
-fn is_due(request: &Request, due: Option<Due>) -> bool {
-    match due {
-        Some((path, body)) => {
-            request.target.path.as_slice() == path && request.body.as_slice() == body
-        }
-        None => false,
-    }
+fn is_request(request: &Request, path: &[u8], body: &[u8]) -> bool {
+    request.target.path.as_slice() == path && request.body.as_slice() == body
 }
 
 // Adds a part so many times.
@@ -102,7 +97,7 @@ impl Reading {
     fn takes(&mut self, step: ReqStep, expected: Expected) -> bool {
         match step {
             ReqStep::Whole(request) => {
-                self.right = self.right && is_due(&request, expected.due_at(self.given));
+                self.right = self.right && expected.is_due(&request, self.given);
                 self.given = self.given.saturating_add(1);
                 true
             }

@@ -1,75 +1,28 @@
 // What is waited for, and what is served and handed out before its end.
+use super::super::cells::{Cells, rows_of};
 use super::reading::{LIMITS, next_whole};
 use host_base::{Bytes, Request};
 use request_reader::{ReqReader, ReqStep};
 use std::alloc::Global;
+use std::test::Fail;
 
-// Requests that have not ended, whether 100 Continue is due, and their body so far where they can be
-// served early.
-const UNENDED: [(&[u8], bool, Option<&[u8]>); 14] = [
-    (b"", false, None),
-    (b"GET / HTTP/1.1\r\nHost: a\r\n\r", false, None),
-    (
-        b"POST / HTTP/1.1\r\nHost: a\r\nContent-Length: 3\r\n\r\n",
-        false,
-        Some(b""),
-    ),
-    (
-        b"POST / HTTP/1.1\r\nHost: a\r\nContent-Length: 3\r\n\r\nab",
-        false,
-        Some(b"ab"),
-    ),
-    (
-        b"POST / HTTP/1.1\r\nHost: a\r\nExpect: 100-continue\r\nContent-Length: 3\r\n\r",
-        false,
-        None,
-    ),
-    (
-        b"POST / HTTP/1.1\r\nHost: a\r\nExpect: 100-continue\r\nContent-Length: 3\r\n\r\n",
-        true,
-        Some(b""),
-    ),
-    (
-        b"POST / HTTP/1.1\r\nHost: a\r\nExpect: 100-Continue\r\nContent-Length: 3\r\n\r\nab",
-        true,
-        Some(b"ab"),
-    ),
-    (
-        b"POST / HTTP/1.1\r\nHost: a\r\nexpect: 100-continue,, 100-continue\r\nContent-Length: 3\r\n\r\n",
-        true,
-        Some(b""),
-    ),
-    (
-        b"POST / HTTP/1.1\r\nHost: a\r\nExpect: 100-continue\r\nExpect: 100-continue\r\nContent-Length: 3\r\n\r\n",
-        true,
-        Some(b""),
-    ),
-    (
-        b"POST / HTTP/1.1\r\nHost: a\r\nExpect:\r\nContent-Length: 3\r\n\r\n",
-        false,
-        Some(b""),
-    ),
-    (
-        b"POST / HTTP/1.0\r\nExpect: 100-continue\r\nContent-Length: 3\r\n\r\n",
-        false,
-        Some(b""),
-    ),
-    (
-        b"POST / HTTP/1.1\r\nHost: a\r\nTransfer-Encoding: chunked\r\n\r\n",
-        false,
-        None,
-    ),
-    (
-        b"POST / HTTP/1.1\r\nHost: a\r\nTransfer-Encoding: chunked\r\n\r\n5\r\nabc",
-        false,
-        None,
-    ),
-    (
-        b"POST / HTTP/1.1\r\nHost: a\r\nExpect: 100-continue\r\nTransfer-Encoding: chunked\r\n\r\n5",
-        true,
-        None,
-    ),
-];
+// Requests that have not ended, whether 100 Continue is due, whether they can be served early, and their body so far.
+const UNENDED: &str = r"
+| no | no |
+GET / HTTP/1.1\r\nHost: a\r\n\r | no | no |
+POST / HTTP/1.1\r\nHost: a\r\nContent-Length: 3\r\n\r\n | no | yes |
+POST / HTTP/1.1\r\nHost: a\r\nContent-Length: 3\r\n\r\nab | no | yes | ab
+POST / HTTP/1.1\r\nHost: a\r\nExpect: 100-continue\r\nContent-Length: 3\r\n\r | no | no |
+POST / HTTP/1.1\r\nHost: a\r\nExpect: 100-continue\r\nContent-Length: 3\r\n\r\n | yes | yes |
+POST / HTTP/1.1\r\nHost: a\r\nExpect: 100-Continue\r\nContent-Length: 3\r\n\r\nab | yes | yes | ab
+POST / HTTP/1.1\r\nHost: a\r\nexpect: 100-continue,, 100-continue\r\nContent-Length: 3\r\n\r\n | yes | yes |
+POST / HTTP/1.1\r\nHost: a\r\nExpect: 100-continue\r\nExpect: 100-continue\r\nContent-Length: 3\r\n\r\n | yes | yes |
+POST / HTTP/1.1\r\nHost: a\r\nExpect:\r\nContent-Length: 3\r\n\r\n | no | yes |
+POST / HTTP/1.0\r\nExpect: 100-continue\r\nContent-Length: 3\r\n\r\n | no | yes |
+POST / HTTP/1.1\r\nHost: a\r\nTransfer-Encoding: chunked\r\n\r\n | no | no |
+POST / HTTP/1.1\r\nHost: a\r\nTransfer-Encoding: chunked\r\n\r\n5\r\nabc | no | no |
+POST / HTTP/1.1\r\nHost: a\r\nExpect: 100-continue\r\nTransfer-Encoding: chunked\r\n\r\n5 | yes | no |
+";
 
 // Feeds a text in pieces of `first` bytes and then of `size` bytes, and looks behind each but the last.
 fn is_fed(reader: &mut ReqReader, text: &[u8], first: usize, size: usize) -> bool {
@@ -136,11 +89,20 @@ fn is_unended_however_cut(alloc: Global, text: &[u8], due: bool, body: Option<&[
 }
 
 #[test]
-fn what_is_waited_for_and_served_early(rt: HostRuntime) {
-    for (text, due, body) in UNENDED.iter() {
-        let right = is_unended_however_cut(rt.alloc(), text, *due, *body);
-        assert!(&rt; right, "{}", text.len());
+fn what_is_waited_for_and_served_early(rt: HostRuntime) -> Result<(), Fail> {
+    let rows = rows_of(rt.alloc(), UNENDED)?;
+    assert_eq!(rt; rows.len(), 14);
+    for row in rows.as_slice() {
+        let cells = Cells::new(rt.alloc(), row)?;
+        let body = if cells.is_yes(2) {
+            Some(cells.at(3))
+        } else {
+            None
+        };
+        let right = is_unended_however_cut(rt.alloc(), cells.at(0), cells.is_yes(1), body);
+        assert!(rt; right, "{row}");
     }
+    Ok(())
 }
 
 const STREAMED: &[u8] =

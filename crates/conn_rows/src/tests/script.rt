@@ -1,0 +1,186 @@
+// Tables of rows as text: `== ` and a name begin a row, and a line `NAME = TEXT` before the first one gives a text its name, by which
+// it stands elsewhere behind `$`. \n, \r, \t, \0 and \xHH are bytes, as in Rust; a line that begins with `//` is a comment.
+use super::play::Heard;
+use host_base::NoMemory;
+use std::alloc::Global;
+
+// ---- bytes
+
+// The value of a digit of base 16; 255 for another byte.
+fn digit(byte: u8) -> u8 {
+    match byte {
+        b'0'..=b'9' => byte - b'0',
+        b'a'..=b'f' => byte - b'a' + 10,
+        _ => 255,
+    }
+}
+
+// Adds a part of a text that stands behind a backslash. What is no escape stays as it is.
+fn push_escaped(bytes: &mut Vec<u8>, part: &[u8]) -> Result<(), NoMemory> {
+    match part {
+        [b'n', rest @ ..] => {
+            bytes.push(b'\n')?;
+            bytes.extend_from_slice(rest)?;
+        }
+        [b'r', rest @ ..] => {
+            bytes.push(b'\r')?;
+            bytes.extend_from_slice(rest)?;
+        }
+        [b't', rest @ ..] => {
+            bytes.push(b'\t')?;
+            bytes.extend_from_slice(rest)?;
+        }
+        [b'0', rest @ ..] => {
+            bytes.push(b'\0')?;
+            bytes.extend_from_slice(rest)?;
+        }
+        [b'x', high, low, rest @ ..] => {
+            bytes.push(digit(*high).wrapping_mul(16).wrapping_add(digit(*low)))?;
+            bytes.extend_from_slice(rest)?;
+        }
+        _ => {
+            bytes.push(b'\\')?;
+            bytes.extend_from_slice(part)?;
+        }
+    }
+    Ok(())
+}
+
+fn unescaped(alloc: Global, text: &str) -> Result<Vec<u8>, NoMemory> {
+    let mut bytes = Vec::new(alloc);
+    let mut first = true;
+    for part in text.split('\\') {
+        if first {
+            bytes.extend_from_slice(part.as_bytes())?;
+        } else {
+            push_escaped(&mut bytes, part.as_bytes())?;
+        }
+        first = false;
+    }
+    Ok(bytes)
+}
+
+// ---- texts
+
+// The text of a line `NAME = TEXT` of a table.
+fn text_of<'t>(table: &'t str, name: &str) -> Option<&'t str> {
+    for line in table.lines() {
+        if let Some((first, text)) = line.split_once(" = ") {
+            if first == name {
+                return Some(text);
+            }
+        }
+    }
+    None
+}
+
+/// The bytes of a text of a table.
+pub fn bytes_of(alloc: Global, table: &str, text: &str) -> Result<Vec<u8>, NoMemory> {
+    match text.strip_prefix("$") {
+        None => unescaped(alloc, text),
+        Some(name) => unescaped(
+            alloc,
+            text_of(table, name).unwrap_or("no text of this name"),
+        ),
+    }
+}
+
+/// Whether an event stands in a line.
+pub fn is_event(line: &str) -> bool {
+    !line.is_empty() && !line.starts_with(' ') && !line.starts_with("//")
+}
+
+// ---- events
+
+/// An event in words: its name, its number, a count, and what it brings.
+#[derive(Drop)]
+pub struct Words<'t> {
+    name: &'t str,
+    number: u64,
+    count: u64,
+    text: Vec<u8>,
+    // What stands behind the count.
+    front: Vec<u8>,
+}
+
+impl<'t> Words<'t> {
+    fn text(&self) -> &str {
+        str::from_utf8(self.text.as_slice()).unwrap_or("no text")
+    }
+
+    fn front(&self) -> &str {
+        str::from_utf8(self.front.as_slice()).unwrap_or("no text")
+    }
+}
+
+fn number_of(text: &str) -> u64 {
+    text.parse::<u64>().unwrap_or(0)
+}
+
+pub fn words_of<'t>(alloc: Global, table: &str, line: &'t str) -> Result<Words<'t>, NoMemory> {
+    let (name, rest) = line.split_once(' ').unwrap_or((line, ""));
+    let (number, text) = rest.split_once(' ').unwrap_or((rest, ""));
+    let (count, front) = text.split_once(' ').unwrap_or((text, ""));
+    Ok(Words {
+        name,
+        number: number_of(number),
+        count: number_of(count),
+        text: bytes_of(alloc, table, text)?,
+        front: bytes_of(alloc, table, front)?,
+    })
+}
+
+fn of_child<'t>(words: &'t Words) -> Option<Heard<'t>> {
+    let k = words.number;
+    Some(match words.name {
+        "Started" => Heard::Started(k),
+        "StartFailed" => Heard::StartFailed(k),
+        "StartFull" => Heard::StartFull(k, words.count as u32),
+        "Out" => Heard::Out(k, words.text()),
+        "OutEnd" => Heard::OutEnd(k),
+        "OutBroken" => Heard::OutBroken(k),
+        "OutFill" => Heard::OutFill(k, words.front(), words.count as usize),
+        "Took" => Heard::Took(k, words.count),
+        "InGone" => Heard::InGone(k),
+        "Exited" => Heard::Exited(k),
+        _ => return None,
+    })
+}
+
+fn of_client<'t>(words: &'t Words) -> Option<Heard<'t>> {
+    Some(match words.name {
+        "Accept" => Heard::Accept,
+        "Client" => Heard::Client(words.text()),
+        "Fill" => Heard::Fill(words.number as u8, words.count as usize),
+        "End" => Heard::End,
+        "Gone" => Heard::Gone,
+        "Wrote" => Heard::Wrote(words.count),
+        "Tick" => Heard::Tick(words.number),
+        "Ticks" => Heard::Ticks(words.number as u32),
+        "NoRoom" => Heard::NoRoom,
+        "Stop" => Heard::Stop,
+        _ => return None,
+    })
+}
+
+fn of_talk<'t>(words: &'t Words) -> Option<Heard<'t>> {
+    Some(match words.name {
+        "Message" => Heard::Message(words.text()),
+        "MessageFill" => Heard::MessageFill(words.count as usize),
+        "Binary" => Heard::Binary,
+        "Closed" => Heard::Closed,
+        "Refused" => Heard::Refused,
+        _ => return None,
+    })
+}
+
+/// The event of these words; none where no event has this name.
+pub fn heard_of<'t>(words: &'t Words) -> Option<Heard<'t>> {
+    match of_child(words) {
+        Some(heard) => Some(heard),
+        None => match of_client(words) {
+            Some(heard) => Some(heard),
+            None => of_talk(words),
+        },
+    }
+}

@@ -1,0 +1,143 @@
+// Tables as text: a row is a line, and its cells stand between `|`. A line that begins with `//` is a comment. In a cell \n, \r,
+// \t, \0 and \xHH are bytes, as in Rust, and blanks at its ends are left out.
+use host_base::{Cause, NoMemory};
+use std::alloc::Global;
+
+/// The rows of a table.
+pub fn rows_of<'t>(alloc: Global, table: &'t str) -> Result<Vec<&'t str>, NoMemory> {
+    let mut rows = Vec::new(alloc);
+    for line in table.lines() {
+        if !line.is_empty() && !line.starts_with("//") {
+            rows.push(line)?;
+        }
+    }
+    Ok(rows)
+}
+
+// The value of a digit of base 16; 255 for another byte.
+fn digit(byte: u8) -> u8 {
+    match byte {
+        b'0'..=b'9' => byte - b'0',
+        b'a'..=b'f' => byte - b'a' + 10,
+        _ => 255,
+    }
+}
+
+// Adds a part of a cell that stands behind a backslash. What is no escape stays as it is.
+fn push_escaped(bytes: &mut Vec<u8>, part: &[u8]) -> Result<(), NoMemory> {
+    match part {
+        [b'n', rest @ ..] => {
+            bytes.push(b'\n')?;
+            bytes.extend_from_slice(rest)?;
+        }
+        [b'r', rest @ ..] => {
+            bytes.push(b'\r')?;
+            bytes.extend_from_slice(rest)?;
+        }
+        [b't', rest @ ..] => {
+            bytes.push(b'\t')?;
+            bytes.extend_from_slice(rest)?;
+        }
+        [b'0', rest @ ..] => {
+            bytes.push(b'\0')?;
+            bytes.extend_from_slice(rest)?;
+        }
+        [b'x', high, low, rest @ ..] => {
+            bytes.push(digit(*high).wrapping_mul(16).wrapping_add(digit(*low)))?;
+            bytes.extend_from_slice(rest)?;
+        }
+        _ => {
+            bytes.push(b'\\')?;
+            bytes.extend_from_slice(part)?;
+        }
+    }
+    Ok(())
+}
+
+fn cell_of(alloc: Global, text: &str) -> Result<Vec<u8>, NoMemory> {
+    let mut bytes = Vec::new(alloc);
+    let mut first = true;
+    for part in text.split('\\') {
+        if first {
+            bytes.extend_from_slice(part.as_bytes())?;
+        } else {
+            push_escaped(&mut bytes, part.as_bytes())?;
+        }
+        first = false;
+    }
+    Ok(bytes)
+}
+
+/// The cells of a row.
+#[derive(Drop)]
+pub struct Cells {
+    all: Vec<Vec<u8>>,
+}
+
+impl Cells {
+    pub fn new(alloc: Global, row: &str) -> Result<Self, NoMemory> {
+        let mut all = Vec::new(alloc);
+        for text in row.split('|') {
+            all.push(cell_of(alloc, text.trim())?)?;
+        }
+        Ok(Cells { all })
+    }
+
+    pub fn len(&self) -> usize {
+        self.all.len()
+    }
+
+    /// A cell. It is empty where there are not so many.
+    pub fn at(&self, place: usize) -> &[u8] {
+        match self.all.as_slice().get(place) {
+            Some(cell) => cell.as_slice(),
+            None => b"",
+        }
+    }
+
+    pub fn text(&self, place: usize) -> &str {
+        str::from_utf8(self.at(place)).unwrap_or("(no text)")
+    }
+
+    /// The number in a cell; the largest one where it has none.
+    pub fn number(&self, place: usize) -> u64 {
+        self.text(place).parse::<u64>().unwrap_or(u64::MAX)
+    }
+
+    pub fn size(&self, place: usize) -> usize {
+        usize::try_from(self.number(place)).unwrap_or(usize::MAX)
+    }
+
+    pub fn is(&self, place: usize, word: &str) -> bool {
+        self.at(place) == word.as_bytes()
+    }
+
+    pub fn is_yes(&self, place: usize) -> bool {
+        self.is(place, "yes")
+    }
+
+    /// The cells from one on.
+    pub fn from(&self, place: usize) -> &[Vec<u8>] {
+        self.all.as_slice().get(place..).unwrap_or(&[])
+    }
+
+    /// The cause that a cell names, and none for `-`. `NoOutput` stands for every other word.
+    pub fn cause(&self, place: usize) -> Option<Cause> {
+        Some(match self.text(place) {
+            "-" => return None,
+            "BadHead" => Cause::BadHead,
+            "HeadTooLong" => Cause::HeadTooLong,
+            "TargetTooLong" => Cause::TargetTooLong,
+            "TooManyFields" => Cause::TooManyFields,
+            "BadChunk" => Cause::BadChunk,
+            "BodyTooLong" => Cause::BodyTooLong,
+            "BadFraming" => Cause::BadFraming,
+            "CodingUnknown" => Cause::CodingUnknown,
+            "BadExpect" => Cause::BadExpect,
+            "BadHost" => Cause::BadHost,
+            "BadTarget" => Cause::BadTarget,
+            "NotServed" => Cause::NotServed,
+            _ => Cause::NoOutput,
+        })
+    }
+}
