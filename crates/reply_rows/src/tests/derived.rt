@@ -1,5 +1,5 @@
 // What outputs derive, whole and cut at each place.
-use super::cells::{Cells, rows_of};
+use super::cells::{Cells, count_of, is_row};
 use cgi_header::{HdrStep, read_header};
 use host_base::{Cause, NoMemory, Reply, ScriptKind};
 use reply_kinds::{Derived, ReplyKind, derive, kind_of, reply_of};
@@ -185,70 +185,132 @@ fn has_kind(alloc: Global, row: &Cells) -> Result<bool, Fail> {
     }
 }
 
-#[test]
-fn replies_and_kinds(rt: HostRuntime) -> Result<(), Fail> {
-    let alloc = rt.alloc();
-    let rows = rows_of(alloc, REPLIES)?;
-    assert_eq!(rt; rows.len(), 34);
-    for row in rows.as_slice() {
-        let cells = Cells::new(alloc, row)?;
-        assert!(rt; replies_however_it_ends(alloc, &cells)?, "{row}");
-        assert!(rt; has_kind(alloc, &cells)?, "the kind of {row}");
+fn is_reply_row(alloc: Global, row: &str) -> Result<bool, NoMemory> {
+    let cells = Cells::new(alloc, row)?;
+    replies_however_it_ends(alloc, &cells)
+}
+
+// The first row of its table that is wrong; nothing where none is.
+fn wrong_reply_row(alloc: Global) -> Result<&'static str, NoMemory> {
+    for row in REPLIES.lines() {
+        if is_row(row) && !is_reply_row(alloc, row)? {
+            return Ok(row);
+        }
     }
+    Ok("")
+}
+
+#[test]
+fn replies(rt: HostRuntime) -> Result<(), Fail> {
+    assert_eq!(rt; count_of(REPLIES), 34);
+    assert_eq!(rt; wrong_reply_row(rt.alloc())?, "");
     Ok(())
 }
 
-// Whether the header derives where its redirect goes, or the cause, with a body and with none.
-fn is_hop_or_bad(alloc: Global, row: &Cells, body: &[u8], hop: bool) -> Result<bool, Fail> {
+fn is_kind_row(alloc: Global, row: &str) -> Result<bool, Fail> {
+    let cells = Cells::new(alloc, row)?;
+    has_kind(alloc, &cells)
+}
+
+// The first row of its table that is wrong; nothing where none is.
+fn wrong_kind_row(alloc: Global) -> Result<&'static str, Fail> {
+    for row in REPLIES.lines() {
+        if is_row(row) && !is_kind_row(alloc, row)? {
+            return Ok(row);
+        }
+    }
+    Ok("")
+}
+
+#[test]
+fn kinds(rt: HostRuntime) -> Result<(), Fail> {
+    assert_eq!(rt; count_of(REPLIES), 34);
+    assert_eq!(rt; wrong_kind_row(rt.alloc())?, "");
+    Ok(())
+}
+
+// What the header derives, with this behind it.
+fn derived_of(alloc: Global, row: &Cells, body: &[u8]) -> Result<Derived, NoMemory> {
     let output = output(alloc, row.at(0), body)?;
-    let derived = derive(alloc, ScriptKind::Cgi, output.as_slice());
-    if hop {
-        Ok(is_hop(&derived, row))
-    } else {
-        is_bad_so(alloc, &derived, row)
+    derive(alloc, ScriptKind::Cgi, output.as_slice())
+}
+
+fn hops(alloc: Global, row: &Cells) -> bool {
+    is_hop(&derived_of(alloc, row, b""), row) && is_hop(&derived_of(alloc, row, BODY), row)
+}
+
+fn is_refused(alloc: Global, row: &Cells) -> Result<bool, Fail> {
+    Ok(
+        is_bad_so(alloc, &derived_of(alloc, row, b""), row)?
+            && is_bad_so(alloc, &derived_of(alloc, row, BODY), row)?,
+    )
+}
+
+fn is_hop_row(alloc: Global, row: &str) -> Result<bool, NoMemory> {
+    let cells = Cells::new(alloc, row)?;
+    Ok(hops(alloc, &cells))
+}
+
+// The first row of its table that is wrong; nothing where none is.
+fn wrong_hop_row(alloc: Global) -> Result<&'static str, NoMemory> {
+    for row in HOPS.lines() {
+        if is_row(row) && !is_hop_row(alloc, row)? {
+            return Ok(row);
+        }
     }
+    Ok("")
 }
 
 #[test]
-fn hops(rt: HostRuntime) -> Result<(), Fail> {
-    let alloc = rt.alloc();
-    let rows = rows_of(alloc, HOPS)?;
-    assert_eq!(rt; rows.len(), 6);
-    for row in rows.as_slice() {
-        let cells = Cells::new(alloc, row)?;
-        assert!(rt; is_hop_or_bad(alloc, &cells, b"", true)?, "{row}");
-        assert!(rt; is_hop_or_bad(alloc, &cells, BODY, true)?, "{row}");
-    }
+fn local_redirects(rt: HostRuntime) -> Result<(), Fail> {
+    assert_eq!(rt; count_of(HOPS), 6);
+    assert_eq!(rt; wrong_hop_row(rt.alloc())?, "");
     Ok(())
+}
+
+fn is_refused_row(alloc: Global, row: &str) -> Result<bool, Fail> {
+    let cells = Cells::new(alloc, row)?;
+    is_refused(alloc, &cells)
+}
+
+// The first row of its table that is wrong; nothing where none is.
+fn wrong_refused_row(alloc: Global) -> Result<&'static str, Fail> {
+    for row in REFUSED.lines() {
+        if is_row(row) && !is_refused_row(alloc, row)? {
+            return Ok(row);
+        }
+    }
+    Ok("")
 }
 
 #[test]
 fn refusals(rt: HostRuntime) -> Result<(), Fail> {
-    let alloc = rt.alloc();
-    let rows = rows_of(alloc, REFUSED)?;
-    assert_eq!(rt; rows.len(), 19);
-    for row in rows.as_slice() {
-        let cells = Cells::new(alloc, row)?;
-        assert!(rt; is_hop_or_bad(alloc, &cells, b"", false)?, "{row}");
-        assert!(rt; is_hop_or_bad(alloc, &cells, BODY, false)?, "{row}");
-    }
+    assert_eq!(rt; count_of(REFUSED), 19);
+    assert_eq!(rt; wrong_refused_row(rt.alloc())?, "");
     Ok(())
+}
+
+// What a script writes is the reply where it writes its own, and none where it speaks WebSocket.
+fn is_own(alloc: Global, output: &[u8]) -> bool {
+    is_raw(&derive(alloc, ScriptKind::Nph, output), output)
+        && is_bad(
+            &derive(alloc, ScriptKind::WebSocket, output),
+            Cause::NoOutput,
+        )
+}
+
+fn is_none(alloc: Global, kind: ScriptKind) -> bool {
+    is_bad(&derive(alloc, kind, b""), Cause::NoOutput)
 }
 
 #[test]
 fn raw_replies(rt: HostRuntime) {
     let alloc = rt.alloc();
-    for output in [
-        b"HTTP/1.0 200 OK\r\n\r\nx".as_slice(),
-        b"x".as_slice(),
-        b"\n".as_slice(),
-        b"Status: 1\n\n".as_slice(),
-    ] {
-        assert!(&rt; is_raw(&derive(alloc, ScriptKind::Nph, output), output));
-        let derived = derive(alloc, ScriptKind::WebSocket, output);
-        assert!(&rt; is_bad(&derived, Cause::NoOutput));
-    }
-    for kind in [ScriptKind::Cgi, ScriptKind::Nph, ScriptKind::WebSocket] {
-        assert!(&rt; is_bad(&derive(alloc, kind, b""), Cause::NoOutput));
-    }
+    assert!(&rt; is_own(alloc, b"HTTP/1.0 200 OK\r\n\r\nx"));
+    assert!(&rt; is_own(alloc, b"x"));
+    assert!(&rt; is_own(alloc, b"\n"));
+    assert!(&rt; is_own(alloc, b"Status: 1\n\n"));
+    assert!(&rt; is_none(alloc, ScriptKind::Cgi));
+    assert!(&rt; is_none(alloc, ScriptKind::Nph));
+    assert!(&rt; is_none(alloc, ScriptKind::WebSocket));
 }

@@ -1,11 +1,10 @@
 // The host's own replies, the phrases, and replies whose text other programs know.
 ghost use Rattle.std.specs.Prelude.{length, ◌<◌};
 
-use super::cells::{Cells, rows_of};
+use super::cells::{Cells, count_of, is_row};
 use host_base::{Bytes, Cause, Field, Fields, NoMemory, Reply};
 use reply_writer::{
-    DATES_END, DateText, END_MARK, Shape, chunk_text, date_text, fault_reply, head_text, phrase,
-    whole_text,
+    DATES_END, END_MARK, Shape, chunk_text, date_text, fault_reply, head_text, phrase, whole_text,
 };
 use std::alloc::Global;
 use std::test::Fail;
@@ -209,33 +208,65 @@ fn reply(alloc: Global, status: u16, phrase: &[u8], body: &[u8]) -> Result<Reply
     })
 }
 
-fn is_cause(alloc: Global, cause: Cause, row: &str) -> Result<bool, Fail> {
-    let cells = Cells::new(alloc, row)?;
-    let (status, text, len) = (cells.text(1), cells.text(2), cells.text(3));
+// The fault's reply to another method than HEAD.
+fn to_get(alloc: Global, cause: Cause) -> Result<Bytes, NoMemory> {
     let fault = fault_reply(alloc, cause)?;
-    let to_get = whole_text(alloc, &fault, false, false, None)?;
+    whole_text(alloc, &fault, false, false, None)
+}
+
+// .. and to HEAD, where the connection closes.
+fn to_head(alloc: Global, cause: Cause) -> Result<Bytes, NoMemory> {
+    let fault = fault_reply(alloc, cause)?;
+    whole_text(alloc, &fault, true, true, None)
+}
+
+fn gets(alloc: Global, cause: Cause, row: &Cells) -> Result<bool, Fail> {
+    let text = to_get(alloc, cause)?;
     let want = format!(in alloc;
-        "HTTP/1.1 {status}\r\nContent-Type: text/plain\r\nContent-Length: {len}\r\n\r\n{text}\n"
+        "HTTP/1.1 {}\r\nContent-Type: text/plain\r\nContent-Length: {}\r\n\r\n{}\n",
+        row.text(1),
+        row.text(3),
+        row.text(2)
     )?;
-    let to_head = whole_text(alloc, &fault, true, true, None)?;
-    let bare = format!(in alloc;
-        "HTTP/1.1 {status}\r\nContent-Type: text/plain\r\nConnection: close\r\n\r\n"
+    Ok(text.as_slice() == want.as_bytes())
+}
+
+fn heads(alloc: Global, cause: Cause, row: &Cells) -> Result<bool, Fail> {
+    let text = to_head(alloc, cause)?;
+    let want = format!(in alloc;
+        "HTTP/1.1 {}\r\nContent-Type: text/plain\r\nConnection: close\r\n\r\n",
+        row.text(1)
     )?;
-    let name = format!(in alloc; "{cause:?}")?;
-    Ok(
-        cells.is(0, name.as_str())
-            && to_get.as_slice() == want.as_bytes()
-            && to_head.as_slice() == bare.as_bytes(),
-    )
+    Ok(text.as_slice() == want.as_bytes())
+}
+
+fn is_named(alloc: Global, cause: Cause, row: &Cells) -> Result<bool, Fail> {
+    Ok(row.is(0, format!(in alloc; "{cause:?}")?.as_str()))
+}
+
+fn is_cause(alloc: Global, cause: Cause, row: &Cells) -> Result<bool, Fail> {
+    Ok(is_named(alloc, cause, row)? && gets(alloc, cause, row)? && heads(alloc, cause, row)?)
+}
+
+fn is_cause_row(alloc: Global, cause: Cause, row: &str) -> Result<bool, Fail> {
+    let cells = Cells::new(alloc, row)?;
+    is_cause(alloc, cause, &cells)
+}
+
+// The first row that is not its cause's; nothing where none is.
+fn wrong_cause_row(alloc: Global, causes: &[Cause]) -> Result<&'static str, Fail> {
+    for (row, cause) in OF_CAUSES.trim().lines().zip(causes) {
+        if !is_cause_row(alloc, *cause, row)? {
+            return Ok(row);
+        }
+    }
+    Ok("")
 }
 
 #[test]
 fn causes(rt: HostRuntime) -> Result<(), Fail> {
-    let rows = rows_of(rt.alloc(), OF_CAUSES)?;
-    assert_eq!(rt; rows.len(), CAUSES.len());
-    for (cause, row) in CAUSES.iter().zip(rows.as_slice()) {
-        assert!(rt; is_cause(rt.alloc(), *cause, row)?, "{row}");
-    }
+    assert_eq!(rt; count_of(OF_CAUSES), 39);
+    assert_eq!(rt; wrong_cause_row(rt.alloc(), &CAUSES)?, "");
     Ok(())
 }
 
@@ -259,31 +290,57 @@ fn code_of(row: &Cells) -> u16 {
     u16::try_from(row.number(0)).unwrap_or(0)
 }
 
+fn is_phrase(row: &Cells) -> bool {
+    phrase(code_of(row)) == row.at(1)
+}
+
+fn is_phrase_row(alloc: Global, row: &str) -> Result<bool, NoMemory> {
+    let cells = Cells::new(alloc, row)?;
+    Ok(is_phrase(&cells))
+}
+
+// The first row of its table that is wrong; nothing where none is.
+fn wrong_phrase_row(alloc: Global) -> Result<&'static str, NoMemory> {
+    for row in PHRASES.lines() {
+        if is_row(row) && !is_phrase_row(alloc, row)? {
+            return Ok(row);
+        }
+    }
+    Ok("")
+}
+
 #[test]
 fn phrases(rt: HostRuntime) -> Result<(), Fail> {
-    let rows = rows_of(rt.alloc(), PHRASES)?;
-    assert_eq!(rt; rows.len(), 47);
-    for row in rows.as_slice() {
-        let cells = Cells::new(rt.alloc(), row)?;
-        assert_eq!(rt; phrase(code_of(&cells)), cells.at(1), "{row}");
-    }
+    assert_eq!(rt; count_of(PHRASES), 47);
+    assert_eq!(rt; wrong_phrase_row(rt.alloc())?, "");
     Ok(())
 }
 
-fn is_spoken(alloc: Global, row: &str) -> Result<bool, NoMemory> {
+fn is_spoken(alloc: Global, row: &Cells) -> Result<bool, NoMemory> {
+    let spoken = reply(alloc, code_of(row), row.at(1), row.at(2))?;
+    let text = whole_text(alloc, &spoken, row.is_yes(3), row.is_yes(4), None)?;
+    Ok(row.len() == 6 && text.as_slice() == row.at(5))
+}
+
+fn is_spoken_row(alloc: Global, row: &str) -> Result<bool, NoMemory> {
     let cells = Cells::new(alloc, row)?;
-    let spoken = reply(alloc, code_of(&cells), cells.at(1), cells.at(2))?;
-    let text = whole_text(alloc, &spoken, cells.is_yes(3), cells.is_yes(4), None)?;
-    Ok(cells.len() == 6 && text.as_slice() == cells.at(5))
+    is_spoken(alloc, &cells)
+}
+
+// The first row of its table that is wrong; nothing where none is.
+fn wrong_spoken_row(alloc: Global) -> Result<&'static str, NoMemory> {
+    for row in REPLIES.lines() {
+        if is_row(row) && !is_spoken_row(alloc, row)? {
+            return Ok(row);
+        }
+    }
+    Ok("")
 }
 
 #[test]
 fn replies(rt: HostRuntime) -> Result<(), Fail> {
-    let rows = rows_of(rt.alloc(), REPLIES)?;
-    assert_eq!(rt; rows.len(), 8);
-    for row in rows.as_slice() {
-        assert!(rt; is_spoken(rt.alloc(), row)?, "{row}");
-    }
+    assert_eq!(rt; count_of(REPLIES), 8);
+    assert_eq!(rt; wrong_spoken_row(rt.alloc())?, "");
     Ok(())
 }
 
@@ -309,41 +366,83 @@ fn shapes(rt: HostRuntime) -> Result<(), Fail> {
     Ok(())
 }
 
+fn is_date(row: &Cells) -> bool {
+    let secs = row.number(0);
+    secs < DATES_END && date_text(secs).text.as_slice() == row.at(1)
+}
+
+fn is_date_row(alloc: Global, row: &str) -> Result<bool, NoMemory> {
+    let cells = Cells::new(alloc, row)?;
+    Ok(is_date(&cells))
+}
+
+// The first row of its table that is wrong; nothing where none is.
+fn wrong_date_row(alloc: Global) -> Result<&'static str, NoMemory> {
+    for row in DATES.lines() {
+        if is_row(row) && !is_date_row(alloc, row)? {
+            return Ok(row);
+        }
+    }
+    Ok("")
+}
+
 #[test]
 fn dates(rt: HostRuntime) -> Result<(), Fail> {
     assert_eq!(rt; DATES_END, 253_402_300_800);
-    let rows = rows_of(rt.alloc(), DATES)?;
-    assert_eq!(rt; rows.len(), 6);
-    for row in rows.as_slice() {
-        let cells = Cells::new(rt.alloc(), row)?;
-        let secs = cells.number(0);
-        assert!(rt; secs < DATES_END);
-        assert_eq!(rt; date_text(secs).text.as_slice(), cells.at(1), "{row}");
-    }
+    assert_eq!(rt; count_of(DATES), 6);
+    assert_eq!(rt; wrong_date_row(rt.alloc())?, "");
     Ok(())
 }
 
-fn is_dated(alloc: Global, date: &DateText, row: &str) -> Result<bool, Fail> {
-    let cells = Cells::new(alloc, row)?;
+// A reply with a field of the script's own, at the second 784111777.
+fn text_with(alloc: Global, own: &str) -> Result<Bytes, NoMemory> {
     let mut spoken = reply(alloc, 200, b"OK", b"hi\n")?;
-    let name = cells.text(0).split_once(": ").map_or("", |parts| parts.0);
-    push(alloc, &mut spoken.fields, name, "x")?;
-    let text = whole_text(alloc, &spoken, false, false, Some(date))?;
-    let said = cells.text(1);
+    push(alloc, &mut spoken.fields, name_of(own), "x")?;
+    whole_text(alloc, &spoken, false, false, Some(&date_text(784_111_777)))
+}
+
+fn name_of(own: &str) -> &str {
+    match own.split_once(": ") {
+        Some((name, _)) => name,
+        None => "",
+    }
+}
+
+fn is_dated(alloc: Global, row: &Cells) -> Result<bool, Fail> {
+    let text = text_with(alloc, row.text(0))?;
     let want = format!(in alloc;
-        "HTTP/1.1 200 OK\r\nContent-Type: text/plain\r\n{said}Content-Length: 3\r\n\r\nhi\n"
+        "HTTP/1.1 200 OK\r\nContent-Type: text/plain\r\n{}Content-Length: 3\r\n\r\nhi\n",
+        row.text(1)
     )?;
     Ok(text.as_slice() == want.as_bytes())
 }
 
+fn is_dated_row(alloc: Global, row: &str) -> Result<bool, Fail> {
+    let cells = Cells::new(alloc, row)?;
+    is_dated(alloc, &cells)
+}
+
+// The first row of its table that is wrong; nothing where none is.
+fn wrong_dated_row(alloc: Global) -> Result<&'static str, Fail> {
+    for row in DATED.lines() {
+        if is_row(row) && !is_dated_row(alloc, row)? {
+            return Ok(row);
+        }
+    }
+    Ok("")
+}
+
 #[test]
 fn dated(rt: HostRuntime) -> Result<(), Fail> {
+    assert_eq!(rt; count_of(DATED), 6);
+    assert_eq!(rt; wrong_dated_row(rt.alloc())?, "");
+    Ok(())
+}
+
+// The host's own replies have a Date too.
+#[test]
+fn dated_without_a_field_of_a_script(rt: HostRuntime) -> Result<(), Fail> {
     let date = date_text(784_111_777);
-    let rows = rows_of(rt.alloc(), DATED)?;
-    assert_eq!(rt; rows.len(), 6);
-    for row in rows.as_slice() {
-        assert!(rt; is_dated(rt.alloc(), &date, row)?, "{row}");
-    }
     let spoken = reply(rt.alloc(), 204, b"No Content", b"")?;
     assert_eq!(rt;
         whole_text(rt.alloc(), &spoken, false, false, Some(&date))?.as_slice(),
@@ -369,19 +468,31 @@ fn is_chunk(alloc: Global, piece: &[u8], digits: &[u8]) -> Result<bool, NoMemory
     Ok(text.as_slice() == want.as_slice())
 }
 
+fn is_size(alloc: Global, row: &Cells) -> Result<bool, NoMemory> {
+    let piece = vec![in alloc; b'x'; row.size(0).min(100_000)]?;
+    let piece = piece.as_slice();
+    Ok(!piece.is_empty() && is_chunk(alloc, piece, row.at(1))?)
+}
+
+fn is_size_row(alloc: Global, row: &str) -> Result<bool, NoMemory> {
+    let cells = Cells::new(alloc, row)?;
+    is_size(alloc, &cells)
+}
+
+// The first row of its table that is wrong; nothing where none is.
+fn wrong_size_row(alloc: Global) -> Result<&'static str, NoMemory> {
+    for row in SIZES.lines() {
+        if is_row(row) && !is_size_row(alloc, row)? {
+            return Ok(row);
+        }
+    }
+    Ok("")
+}
+
 #[test]
 fn chunks(rt: HostRuntime) -> Result<(), Fail> {
-    let rows = rows_of(rt.alloc(), SIZES)?;
-    assert_eq!(rt; rows.len(), 10);
-    for row in rows.as_slice() {
-        let cells = Cells::new(rt.alloc(), row)?;
-        let piece = vec![in rt.alloc(); b'x'; cells.size(0).min(100_000)]?;
-        assert!(rt; !piece.is_empty());
-        assert!(rt;
-            is_chunk(rt.alloc(), piece.as_slice(), cells.at(1))?,
-            "{row}"
-        );
-    }
+    assert_eq!(rt; count_of(SIZES), 10);
+    assert_eq!(rt; wrong_size_row(rt.alloc())?, "");
     assert_eq!(rt; END_MARK, b"0\r\n\r\n".as_slice());
     Ok(())
 }

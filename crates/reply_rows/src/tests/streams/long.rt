@@ -1,5 +1,5 @@
 // Outputs about the size at which a reply begins without a tick, and a header that is about as long.
-use super::super::cells::{Cells, rows_of};
+use super::super::cells::{Cells, count_of, is_row};
 use super::{GET, asked_of, is_ended};
 use host_base::{Bytes, NoMemory};
 use reply_stream::{Asked, Last, Stream};
@@ -138,17 +138,30 @@ fn is_long_row_however_cut(alloc: Global, texts: &Texts) -> bool {
     is_long_row(alloc, texts, 0, 1)
 }
 
+fn is_long(alloc: Global, row: &Cells) -> Result<bool, NoMemory> {
+    let texts = texts_of(alloc, row)?;
+    Ok(row.len() == 10 && is_long_row_however_cut(alloc, &texts))
+}
+
+fn is_long_output_row(alloc: Global, row: &str) -> Result<bool, NoMemory> {
+    let cells = Cells::new(alloc, row)?;
+    is_long(alloc, &cells)
+}
+
+// The first row of its table that is wrong; nothing where none is.
+fn wrong_long_output_row(alloc: Global) -> Result<&'static str, NoMemory> {
+    for row in LONG.lines() {
+        if is_row(row) && !is_long_output_row(alloc, row)? {
+            return Ok(row);
+        }
+    }
+    Ok("")
+}
+
 #[test]
 fn long_outputs(rt: HostRuntime) -> Result<(), Fail> {
-    let alloc = rt.alloc();
-    let rows = rows_of(alloc, LONG)?;
-    assert_eq!(rt; rows.len(), 11);
-    for row in rows.as_slice() {
-        let cells = Cells::new(alloc, row)?;
-        assert_eq!(rt; cells.len(), 10, "{row}");
-        let texts = texts_of(alloc, &cells)?;
-        assert!(rt; is_long_row_however_cut(alloc, &texts), "{row}");
-    }
+    assert_eq!(rt; count_of(LONG), 11);
+    assert_eq!(rt; wrong_long_output_row(rt.alloc())?, "");
     Ok(())
 }
 
@@ -166,24 +179,39 @@ fn is_unwritten_as(
     Ok(written && !begun && is_ended(alloc, &last, row, 3)?)
 }
 
-fn is_unwritten(alloc: Global, row: &str) -> Result<bool, Fail> {
-    let cells = Cells::new(alloc, row)?;
-    let output = filled_at(alloc, &cells, 0)?;
+fn is_unwritten_however_cut(alloc: Global, output: &[u8], row: &Cells) -> Result<bool, Fail> {
     Ok(
-        is_unwritten_as(alloc, output.as_slice(), &cells, 0, 1)?
-            && is_unwritten_as(alloc, output.as_slice(), &cells, 0, 8192)?
-            && is_unwritten_as(alloc, output.as_slice(), &cells, 0, 10_000)?
-            && is_unwritten_as(alloc, output.as_slice(), &cells, 8191, 1)?,
+        is_unwritten_as(alloc, output, row, 0, 1)?
+            && is_unwritten_as(alloc, output, row, 0, 8192)?
+            && is_unwritten_as(alloc, output, row, 0, 10_000)?
+            && is_unwritten_as(alloc, output, row, 8191, 1)?,
     )
+}
+
+fn is_unwritten(alloc: Global, row: &Cells) -> Result<bool, Fail> {
+    let output = filled_at(alloc, row, 0)?;
+    is_unwritten_however_cut(alloc, output.as_slice(), row)
+}
+
+fn is_unwritten_row(alloc: Global, row: &str) -> Result<bool, Fail> {
+    let cells = Cells::new(alloc, row)?;
+    is_unwritten(alloc, &cells)
+}
+
+// The first row of its table that is wrong; nothing where none is.
+fn wrong_unwritten_row(alloc: Global) -> Result<&'static str, Fail> {
+    for row in UNWRITTEN.lines() {
+        if is_row(row) && !is_unwritten_row(alloc, row)? {
+            return Ok(row);
+        }
+    }
+    Ok("")
 }
 
 #[test]
 fn long_outputs_of_which_nothing_is_written(rt: HostRuntime) -> Result<(), Fail> {
-    let rows = rows_of(rt.alloc(), UNWRITTEN)?;
-    assert_eq!(rt; rows.len(), 5);
-    for row in rows.as_slice() {
-        assert!(rt; is_unwritten(rt.alloc(), row)?, "{row}");
-    }
+    assert_eq!(rt; count_of(UNWRITTEN), 5);
+    assert_eq!(rt; wrong_unwritten_row(rt.alloc())?, "");
     Ok(())
 }
 
