@@ -3,15 +3,20 @@
 use host_base::{Cause, NoMemory};
 use std::alloc::Global;
 
-/// The rows of a table.
-pub fn rows_of<'t>(alloc: Global, table: &'t str) -> Result<Vec<&'t str>, NoMemory> {
-    let mut rows = Vec::new(alloc);
+/// Whether a line of a table is a row.
+pub fn is_row(line: &str) -> bool {
+    !line.is_empty() && !line.starts_with("//")
+}
+
+/// How many rows a table has.
+pub fn count_of(table: &str) -> usize {
+    let mut count: usize = 0;
     for line in table.lines() {
-        if !line.is_empty() && !line.starts_with("//") {
-            rows.push(line)?;
+        if is_row(line) {
+            count = count.saturating_add(1);
         }
     }
-    Ok(rows)
+    count
 }
 
 // The value of a digit of base 16; 255 for another byte.

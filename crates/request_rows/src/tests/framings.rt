@@ -1,10 +1,9 @@
 // What bodies in chunks are read as, whole, byte by byte and cut in two at each place, and how heads
 // delimit their bodies.
-use super::cells::{Cells, rows_of};
+use super::cells::{Cells, count_of, is_row};
 use body_framing::{ChunkStep, Chunks, framing_of};
 use host_base::{Bytes, Cause, Field, Fields, Framing, Head, Limits, NoMemory, Version};
 use std::alloc::Global;
-use std::process::Abort;
 use std::test::Fail;
 
 // Bytes, after how many of them the body ends or is refused (`never`: it does not), the cause, and the data, at most 5 bytes.
@@ -143,29 +142,33 @@ fn is_read_however_cut(
     is_read(alloc, limit, text, (0, 1), due, data)
 }
 
-// Whether each row of a table of so many is read so, with at most `limit` bytes of data.
-fn are_read(
-    rt: &impl Abort,
-    alloc: Global,
-    limit: u64,
-    table: &str,
-    count: usize,
-) -> Result<(), Fail> {
-    let rows = rows_of(alloc, table)?;
-    assert_eq!(rt; rows.len(), count);
-    for row in rows.as_slice() {
-        let cells = Cells::new(alloc, row)?;
-        let due = (cells.size(1), cells.cause(2));
-        let right = is_read_however_cut(alloc, limit, cells.at(0), due, Some(cells.at(3)))?;
-        assert!(rt; right, "{row}");
+fn is_body(alloc: Global, limit: u64, row: &Cells) -> Result<bool, NoMemory> {
+    let due = (row.size(1), row.cause(2));
+    is_read_however_cut(alloc, limit, row.at(0), due, Some(row.at(3)))
+}
+
+fn is_body_row(alloc: Global, limit: u64, row: &str) -> Result<bool, NoMemory> {
+    let cells = Cells::new(alloc, row)?;
+    is_body(alloc, limit, &cells)
+}
+
+// The first row of a table that is not read so, with at most `limit` bytes of data; nothing where none is.
+fn wrong_body(alloc: Global, limit: u64, table: &'static str) -> Result<&'static str, NoMemory> {
+    for row in table.lines() {
+        if is_row(row) && !is_body_row(alloc, limit, row)? {
+            return Ok(row);
+        }
     }
-    Ok(())
+    Ok("")
 }
 
 #[test]
 fn bodies_however_they_are_cut(rt: HostRuntime) -> Result<(), Fail> {
-    are_read(&rt, rt.alloc(), 5, BODIES, 53)?;
-    are_read(&rt, rt.alloc(), 31, LETTERED, 8)
+    assert_eq!(rt; count_of(BODIES), 53);
+    assert_eq!(rt; wrong_body(rt.alloc(), 5, BODIES)?, "");
+    assert_eq!(rt; count_of(LETTERED), 8);
+    assert_eq!(rt; wrong_body(rt.alloc(), 31, LETTERED)?, "");
+    Ok(())
 }
 
 fn long_body(
@@ -182,18 +185,32 @@ fn long_body(
     Ok(text)
 }
 
+fn is_long_body(alloc: Global, row: &Cells) -> Result<bool, NoMemory> {
+    let times = row.size(1).min(100_000);
+    let text = long_body(alloc, row.at(0), times, row.at(2))?;
+    let due = (row.size(3), row.cause(4));
+    is_read_however_cut(alloc, 5, text.as_slice(), due, None)
+}
+
+fn is_long_body_row(alloc: Global, row: &str) -> Result<bool, NoMemory> {
+    let cells = Cells::new(alloc, row)?;
+    is_long_body(alloc, &cells)
+}
+
+// The first row of its table that is wrong; nothing where none is.
+fn wrong_long_body_row(alloc: Global) -> Result<&'static str, NoMemory> {
+    for row in LONG_BODIES.lines() {
+        if is_row(row) && !is_long_body_row(alloc, row)? {
+            return Ok(row);
+        }
+    }
+    Ok("")
+}
+
 #[test]
 fn the_limits_edges(rt: HostRuntime) -> Result<(), Fail> {
-    let rows = rows_of(rt.alloc(), LONG_BODIES)?;
-    assert_eq!(rt; rows.len(), 5);
-    for row in rows.as_slice() {
-        let cells = Cells::new(rt.alloc(), row)?;
-        let times = cells.size(1).min(100_000);
-        let text = long_body(rt.alloc(), cells.at(0), times, cells.at(2))?;
-        let due = (cells.size(3), cells.cause(4));
-        let right = is_read_however_cut(rt.alloc(), 5, text.as_slice(), due, None)?;
-        assert!(rt; right, "{row}");
-    }
+    assert_eq!(rt; count_of(LONG_BODIES), 5);
+    assert_eq!(rt; wrong_long_body_row(rt.alloc())?, "");
     Ok(())
 }
 
@@ -291,14 +308,28 @@ fn is_framed(alloc: Global, version: Version, row: &Cells) -> Result<bool, NoMem
     Ok(framing_of(&head_of(alloc, version, row)?, &limits) == due)
 }
 
+fn is_framed_in_both(alloc: Global, row: &Cells) -> Result<bool, NoMemory> {
+    Ok(is_framed(alloc, Version::V10, row)? && is_framed(alloc, Version::V11, row)?)
+}
+
+fn is_framing_row(alloc: Global, row: &str) -> Result<bool, NoMemory> {
+    let cells = Cells::new(alloc, row)?;
+    is_framed_in_both(alloc, &cells)
+}
+
+// The first row of its table that is wrong; nothing where none is.
+fn wrong_framing_row(alloc: Global) -> Result<&'static str, NoMemory> {
+    for row in FRAMINGS.lines() {
+        if is_row(row) && !is_framing_row(alloc, row)? {
+            return Ok(row);
+        }
+    }
+    Ok("")
+}
+
 #[test]
 fn how_heads_delimit_their_bodies(rt: HostRuntime) -> Result<(), Fail> {
-    let rows = rows_of(rt.alloc(), FRAMINGS)?;
-    assert_eq!(rt; rows.len(), 38);
-    for row in rows.as_slice() {
-        let cells = Cells::new(rt.alloc(), row)?;
-        assert!(rt; is_framed(rt.alloc(), Version::V10, &cells)?, "1.0: {row}");
-        assert!(rt; is_framed(rt.alloc(), Version::V11, &cells)?, "1.1: {row}");
-    }
+    assert_eq!(rt; count_of(FRAMINGS), 38);
+    assert_eq!(rt; wrong_framing_row(rt.alloc())?, "");
     Ok(())
 }
