@@ -2,7 +2,7 @@
 // nothing but the end of its child follows.
 ghost use Rattle.host_base.specs.SiteRules.{IsServed};
 
-use super::play::{Row, SITE, record, rows_of};
+use super::play::{Row, SITE, record, row_of};
 use super::{replies, requests, talks};
 use host_base::{NoMemory, Site};
 use site_file::read_site;
@@ -52,7 +52,8 @@ fn goes_on(alloc: Global, site: &Site, row: Row, count: u32) -> Result<Option<u3
 fn wrong<'t>(alloc: Global, site: &Site, table: &'t str) -> Result<&'t str, NoMemory>
     requires { IsServed site.now }
 {
-    for row in rows_of(alloc, table)? {
+    for row in table.split("\n== ").skip(1) {
+        let row = row_of(table, row);
         let whole = record(alloc, site, row, false, None)?;
         if goes_on(alloc, site, row, whole.carried)?.is_some() {
             return Ok(row.name);

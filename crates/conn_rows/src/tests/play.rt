@@ -59,14 +59,10 @@ pub struct Row<'t> {
     table: &'t str,
 }
 
-/// The rows of a table, each behind `== ` and its name.
-pub fn rows_of<'t>(alloc: Global, table: &'t str) -> Result<Vec<Row<'t>>, NoMemory> {
-    let mut rows = Vec::new(alloc);
-    for row in table.split("\n== ").skip(1) {
-        let (name, beats) = row.split_once('\n').unwrap_or((row, ""));
-        rows.push(Row { name, beats, table })?;
-    }
-    Ok(rows)
+/// The row of such a text.
+pub fn row_of<'t>(table: &'t str, row: &'t str) -> Row<'t> {
+    let (name, beats) = row.split_once('\n').unwrap_or((row, ""));
+    Row { name, beats, table }
 }
 
 pub const SITE: &str = "version = 1

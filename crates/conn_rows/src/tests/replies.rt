@@ -1,5 +1,5 @@
 // Replies: whole, streamed, cut off.
-use super::check;
+use super::{check, count_of};
 use std::test::Fail;
 
 pub const ROWS: &str = r"
@@ -443,7 +443,8 @@ OutEnd 0
 
 #[test]
 fn replies_are_written(rt: HostRuntime) -> Result<(), Fail> {
-    let said = check(rt.alloc(), ROWS, 30)?;
+    assert_eq!(rt; count_of(ROWS), 30);
+    let said = check(rt.alloc(), ROWS)?;
     assert_eq!(rt; said.as_str(), "");
     Ok(())
 }

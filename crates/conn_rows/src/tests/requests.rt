@@ -1,5 +1,5 @@
 // Requests: how they come, and what is refused.
-use super::check;
+use super::{check, count_of};
 use std::test::Fail;
 
 pub const ROWS: &str = r"
@@ -167,7 +167,8 @@ End
 
 #[test]
 fn requests_are_read_and_refused(rt: HostRuntime) -> Result<(), Fail> {
-    let said = check(rt.alloc(), ROWS, 18)?;
+    assert_eq!(rt; count_of(ROWS), 18);
+    let said = check(rt.alloc(), ROWS)?;
     assert_eq!(rt; said.as_str(), "");
     Ok(())
 }

@@ -1,6 +1,6 @@
 // A handshake, and what is said over the WebSocket then (RFC 6455 4.2.2).
-use super::check;
-use super::play::{record, rows_of};
+use super::play::{record, row_of};
+use super::{check, count_of};
 use site_file::read_site;
 use std::test::Fail;
 
@@ -376,9 +376,11 @@ Exited 0
 
 #[test]
 fn a_handshake_leads_to_a_talk(rt: HostRuntime) -> Result<(), Fail> {
-    let said = check(rt.alloc(), ROWS, 17)?;
+    assert_eq!(rt; count_of(ROWS), 17);
+    let said = check(rt.alloc(), ROWS)?;
     assert_eq!(rt; said.as_str(), "");
-    let said = check(rt.alloc(), OTHERS, 4)?;
+    assert_eq!(rt; count_of(OTHERS), 4);
+    let said = check(rt.alloc(), OTHERS)?;
     assert_eq!(rt; said.as_str(), "");
     Ok(())
 }
@@ -417,10 +419,10 @@ fn a_line_that_is_too_long_ends_a_talk(rt: HostRuntime) -> Result<(), Fail> {
         assert!(rt; false);
         return Ok(());
     };
-    let rows = rows_of(alloc, TOO_LONG)?;
-    assert_eq!(rt; rows.len(), 1);
+    assert_eq!(rt; count_of(TOO_LONG), 1);
+    let row = row_of(TOO_LONG, TOO_LONG.split("\n== ").nth(1).unwrap_or(""));
     for single in [false, true] {
-        let out = record(alloc, &site, rows[0], single, None)?;
+        let out = record(alloc, &site, row, single, None)?;
         assert_eq!(rt; out.said.as_str(), "abcd\n");
         let end = "CloseWs 1011\nEndInput 0\nKill 0\nShut Done\n--\n";
         assert!(rt; out.log.as_str().ends_with(end));

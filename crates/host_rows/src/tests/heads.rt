@@ -1,9 +1,9 @@
 // What heads bring, over memory by the top call: each condition just met and just missed, and however their
 // bytes come.
 use super::pieces::{Part, due_of, is_right_in_any, repeated};
-use super::script::{bytes_of, column, is_row};
+use super::script::{bytes_of, column, count_of, is_row};
+use host_base::NoMemory;
 use std::alloc::Global;
-use std::process::Abort;
 use std::test::Fail;
 use std::thread::Threads;
 
@@ -241,55 +241,67 @@ $BAD_EXPECT | Host: a\r\nConnection: close\r\nexpect: x\r\n
 $BAD_EXPECT | Host: a\r\nConnection: close\r\nExpect: 100-continue, x\r\n
 ";
 
-fn is_case<R: Threads + Abort + Sync>(
+fn text_of(alloc: Global, before: &[u8], case: &str, after: &[u8]) -> Result<Vec<u8>, NoMemory> {
+    let part = bytes_of(alloc, "", column(case, 1))?;
+    repeated(alloc, before, part.as_slice(), 1, after)
+}
+
+fn is_case<R: Threads + Sync>(
     rt: &R,
     alloc: Global,
     before: &[u8],
     case: &str,
     after: &[u8],
-) -> Result<bool, Fail> {
-    let part = bytes_of(alloc, "", column(case, 1))?;
-    let text = repeated(alloc, before, part.as_slice(), 1, after)?;
+) -> Result<bool, NoMemory> {
+    let text = text_of(alloc, before, case, after)?;
     let due = due_of(alloc, WANTED, column(case, 0))?;
-    Ok(is_right_in_any(rt, alloc, Part::Request, text.as_slice(), due.wanted())?)
+    is_right_in_any(rt, alloc, Part::Request, text.as_slice(), due.wanted())
 }
 
-// Each of so many is right however it is cut, with what stands before and after it.
-fn has_cases<R: Threads + Abort + Sync>(
+// The first case that is wrong, with what stands before and after it; nothing where none is.
+fn wrong_case<R: Threads + Sync>(
     rt: &R,
     alloc: Global,
     before: &[u8],
-    cases: &str,
-    count: usize,
+    cases: &'static str,
     after: &[u8],
-) -> Result<(), Fail> {
-    let mut rows: usize = 0;
+) -> Result<&'static str, NoMemory> {
     for case in cases.lines() {
-        if is_row(case) {
-            let right = is_case(rt, alloc, before, case, after)?;
-            assert!(rt; right, "{case}");
-            rows = rows.saturating_add(1);
+        if is_row(case) && !is_case(rt, alloc, before, case, after)? {
+            return Ok(case);
         }
     }
-    assert_eq!(rt; rows, count);
-    Ok(())
+    Ok("")
 }
 
 #[test]
 fn heads_in_any_pieces(rt: HostRuntime) -> Result<(), Fail> {
     let fields = b"\r\nHost: a\r\nConnection: close\r\n\r\n";
-    has_cases(&rt, rt.alloc(), b"", HEADS, 36, b"")?;
-    has_cases(&rt, rt.alloc(), b"", REQUEST_LINES, 23, fields)
+    assert_eq!(rt; count_of(HEADS), 36);
+    assert_eq!(rt; wrong_case(&rt, rt.alloc(), b"", HEADS, b"")?, "");
+    assert_eq!(rt; count_of(REQUEST_LINES), 23);
+    assert_eq!(rt;
+        wrong_case(&rt, rt.alloc(), b"", REQUEST_LINES, fields)?,
+        ""
+    );
+    Ok(())
 }
 
 #[test]
 fn targets_in_any_pieces(rt: HostRuntime) -> Result<(), Fail> {
     let after = b" HTTP/1.1\r\nHost: a\r\nConnection: close\r\n\r\n";
-    has_cases(&rt, rt.alloc(), b"GET ", TARGETS, 64, after)
+    assert_eq!(rt; count_of(TARGETS), 64);
+    assert_eq!(rt; wrong_case(&rt, rt.alloc(), b"GET ", TARGETS, after)?, "");
+    Ok(())
 }
 
 #[test]
 fn fields_in_any_pieces(rt: HostRuntime) -> Result<(), Fail> {
     let before = b"GET /cgi-bin/hello HTTP/1.1\r\n";
-    has_cases(&rt, rt.alloc(), before, FIELD_LINES, 57, b"\r\n")
+    assert_eq!(rt; count_of(FIELD_LINES), 57);
+    assert_eq!(rt;
+        wrong_case(&rt, rt.alloc(), before, FIELD_LINES, b"\r\n")?,
+        ""
+    );
+    Ok(())
 }

@@ -2,13 +2,12 @@
 // outputs at their limits and one past.
 use super::drive::Heard::{Accepted, Client, ClientEof, Stop};
 use super::launches::CHUNKED_FORM;
-use super::pieces::{Part, due_of, is_right_in_two, is_right_whole, repeated};
+use super::pieces::{Part, Wanted, due_of, is_right_in_two, is_right_whole};
 use super::play::{Play, has_rows, plays};
-use super::script::{bytes_of, column, is_row, size_of};
+use super::script::{bytes_of, column, count_of, is_row, size_of};
 use super::texts::WRITE_ENDED_EARLY;
 use host_base::NoMemory;
 use std::alloc::Global;
-use std::process::Abort;
 use std::test::Fail;
 use std::thread::Threads;
 
@@ -155,36 +154,58 @@ HEAD /cgi-bin/hello HTTP/1.1\r\nHost: a\r\nConnection: close\r\n | A:\r\n | 98 |
 HEAD /cgi-bin/hello HTTP/1.1\r\nHost: a\r\nConnection: close\r\n | A:\r\n | 99 | \r\n | $TOO_MANY
 ";
 
-fn is_right<R: Threads + Abort + Sync>(rt: &R, alloc: Global, long: &str) -> Result<bool, Fail> {
-    let before = bytes_of(alloc, LONG, column(long, 0))?;
-    let part = bytes_of(alloc, LONG, column(long, 1))?;
-    let after = bytes_of(alloc, LONG, column(long, 3))?;
-    let (before, part, after) = (before.as_slice(), part.as_slice(), after.as_slice());
-    let text = repeated(
+// What is repeated, with what stands before it and after it.
+fn text_of(alloc: Global, long: &str) -> Result<Vec<u8>, NoMemory> {
+    let mut text = bytes_of(alloc, LONG, column(long, 0))?;
+    push_times(
         alloc,
-        before,
-        part,
+        &mut text,
+        column(long, 1),
         size_of(column(long, 2)).min(20_000),
-        after,
     )?;
-    let wanted = due_of(alloc, LONG, column(long, 4))?;
-    let text = text.as_slice();
+    push_times(alloc, &mut text, column(long, 3), 1)?;
+    Ok(text)
+}
+
+fn push_times(alloc: Global, text: &mut Vec<u8>, part: &str, times: usize) -> Result<(), NoMemory> {
+    let part = bytes_of(alloc, LONG, part)?;
+    for _ in 0..times {
+        text.extend_from_slice(part.as_slice())?;
+    }
+    Ok(())
+}
+
+fn is_right<R: Threads + Sync>(
+    rt: &R,
+    alloc: Global,
+    text: &[u8],
+    wanted: Wanted,
+) -> Result<bool, NoMemory> {
     Ok(
-        is_right_whole(rt, alloc, Part::Request, text, wanted.wanted())?
-            && is_right_in_two(rt, alloc, Part::Request, text, wanted.wanted())?,
+        is_right_whole(rt, alloc, Part::Request, text, wanted)?
+            && is_right_in_two(rt, alloc, Part::Request, text, wanted)?,
     )
+}
+
+fn is_long<R: Threads + Sync>(rt: &R, alloc: Global, long: &str) -> Result<bool, NoMemory> {
+    let text = text_of(alloc, long)?;
+    let due = due_of(alloc, LONG, column(long, 4))?;
+    is_right(rt, alloc, text.as_slice(), due.wanted())
+}
+
+// The first row that is wrong; nothing where none is.
+fn wrong_long<R: Threads + Sync>(rt: &R, alloc: Global) -> Result<&'static str, NoMemory> {
+    for long in LONG.lines() {
+        if is_row(long) && !is_long(rt, alloc, long)? {
+            return Ok(long);
+        }
+    }
+    Ok("")
 }
 
 #[test]
 fn heads_targets_and_fields_at_their_limits(rt: HostRuntime) -> Result<(), Fail> {
-    let mut rows: usize = 0;
-    for long in LONG.lines() {
-        if is_row(long) {
-            let right = is_right(&rt, rt.alloc(), long)?;
-            assert!(&rt; right, "{long}");
-            rows = rows.saturating_add(1);
-        }
-    }
-    assert_eq!(rt; rows, 13);
+    assert_eq!(rt; count_of(LONG), 13);
+    assert_eq!(rt; wrong_long(&rt, rt.alloc())?, "");
     Ok(())
 }

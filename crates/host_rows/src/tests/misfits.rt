@@ -309,22 +309,48 @@ fn beats_of(alloc: Global, run: &str) -> Result<String, NoMemory> {
     Ok(beats)
 }
 
-// Nothing is done for any of the misfits of a run; how many they are.
-fn passes(rt: &impl Abort, alloc: Global, site: &Site, row: &str) -> Result<usize, Fail>
+// Nothing is done for a misfit among the beats.
+fn passes_by(
+    rt: &impl Abort,
+    alloc: Global,
+    site: &Site,
+    beats: &str,
+    misfit: &str,
+) -> Result<(), Fail>
     requires { IsServed site.now }
 {
-    let (name, run) = row.split_once('\n').unwrap_or((row, ""));
-    let beats = beats_of(alloc, run)?;
+    let mut play = Play::new(alloc);
+    put_in(&mut play, beats, misfit)?;
+    serves(rt, site, misfit, play)
+}
+
+// .. for any of those in these lines; how many they are.
+fn passes_by_all(
+    rt: &impl Abort,
+    alloc: Global,
+    site: &Site,
+    beats: &str,
+    run: &str,
+) -> Result<usize, Fail>
+    requires { IsServed site.now }
+{
     let mut count: usize = 0;
     for line in run.lines() {
         if let Some(misfit) = line.strip_prefix("! ") {
-            let mut play = Play::new(alloc);
-            put_in(&mut play, beats.as_str(), misfit)?;
-            serves(rt, site, name, play)?;
+            passes_by(rt, alloc, site, beats, misfit)?;
             count = count.saturating_add(1);
         }
     }
     Ok(count)
+}
+
+// .. for any of a run.
+fn passes(rt: &impl Abort, alloc: Global, site: &Site, row: &str) -> Result<usize, Fail>
+    requires { IsServed site.now }
+{
+    let (_, run) = row.split_once('\n').unwrap_or((row, ""));
+    let beats = beats_of(alloc, run)?;
+    passes_by_all(rt, alloc, site, beats.as_str(), run)
 }
 
 fn pass(rt: &impl Abort, alloc: Global, site: &Site) -> Result<(), Fail>

@@ -34,14 +34,15 @@ pub enum Wanted<'t> {
 /// What is to come of an exchange, by the text of a table.
 #[derive(Drop)]
 pub struct Due {
-    word: Vec<u8>,
-    reply: Vec<u8>,
+    text: Vec<u8>,
 }
 
 impl Due {
     pub fn wanted(&self) -> Wanted<'_> {
-        let reply = self.reply.as_slice();
-        match shown(self.word.as_slice()) {
+        let text = shown(self.text.as_slice());
+        let (word, reply) = text.split_once(' ').unwrap_or((text, ""));
+        let reply = reply.as_bytes();
+        match word {
             "Nothing" => Wanted::Nothing,
             "Refused" => Wanted::Refused(reply),
             "Served" => Wanted::Served(reply),
@@ -54,13 +55,8 @@ impl Due {
 
 /// What is to come, as a text of a table says: `Nothing`, or one of the other words and the reply.
 pub fn due_of(alloc: Global, table: &str, text: &str) -> Result<Due, NoMemory> {
-    let text = bytes_of(alloc, table, text)?;
-    let (word, reply) = shown(text.as_slice())
-        .split_once(' ')
-        .unwrap_or((shown(text.as_slice()), ""));
     Ok(Due {
-        word: Vec::from_slice(alloc, word.as_bytes())?,
-        reply: Vec::from_slice(alloc, reply.as_bytes())?,
+        text: bytes_of(alloc, table, text)?,
     })
 }
 

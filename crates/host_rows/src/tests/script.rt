@@ -157,6 +157,17 @@ pub fn is_row(line: &str) -> bool {
     line.contains("|") && !line.starts_with("//")
 }
 
+/// How many rows a table of columns has.
+pub fn count_of(table: &str) -> usize {
+    let mut count: usize = 0;
+    for line in table.lines() {
+        if is_row(line) {
+            count = count.saturating_add(1);
+        }
+    }
+    count
+}
+
 /// Whether an event stands in a line.
 pub fn is_event(line: &str) -> bool {
     !line.is_empty() && !line.starts_with(' ') && !line.starts_with("//")

@@ -203,20 +203,29 @@ fn cut(play: &mut Play, beats: &str, table: &str, end: &str) -> Result<(), NoMem
     play.script(table, lines)
 }
 
+fn has_end<R: Threads + Abort + Sync>(
+    rt: &R,
+    alloc: Global,
+    beats: &str,
+    ends: &str,
+    end: &str,
+) -> Result<(), Fail> {
+    let mut play = Play::new(alloc);
+    cut(&mut play, beats, ends, end)?;
+    plays(rt, "once", "site", beats, play)
+}
+
 // Each of so many is the end of a front of the beats.
 fn has_ends<R: Threads + Abort + Sync>(
     rt: &R,
     alloc: Global,
-    name: &str,
     beats: &str,
     ends: &str,
     count: usize,
 ) -> Result<(), Fail> {
     let mut rows: usize = 0;
     for end in ends.split("\n== ").skip(1) {
-        let mut play = Play::new(alloc);
-        cut(&mut play, beats, ends, end)?;
-        plays(rt, "once", "site", name, play)?;
+        has_end(rt, alloc, beats, ends, end)?;
         rows = rows.saturating_add(1);
     }
     assert_eq!(rt; rows, count);
@@ -225,16 +234,9 @@ fn has_ends<R: Threads + Abort + Sync>(
 
 #[test]
 fn stop_at_each_place(rt: HostRuntime) -> Result<(), Fail> {
-    has_ends(&rt, rt.alloc(), "a first exchange", "FIRST", IN_FIRST, 14)?;
-    has_ends(
-        &rt,
-        rt.alloc(),
-        "a redirect",
-        "REDIRECTED",
-        IN_REDIRECTED,
-        11,
-    )?;
-    has_ends(&rt, rt.alloc(), "a talk", "TALK", IN_TALK, 18)
+    has_ends(&rt, rt.alloc(), "FIRST", IN_FIRST, 14)?;
+    has_ends(&rt, rt.alloc(), "REDIRECTED", IN_REDIRECTED, 11)?;
+    has_ends(&rt, rt.alloc(), "TALK", IN_TALK, 18)
 }
 
 const REFUSALS: &str = r"

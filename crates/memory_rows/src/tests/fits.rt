@@ -257,18 +257,24 @@ fn passes(rt: &impl Abort, alloc: Global, row: &Row) -> Result<(), Fail> {
     Ok(())
 }
 
+fn is_so(rt: &impl Abort, alloc: Global, row: &Row) -> Result<(), Fail> {
+    tests(rt, alloc, row)?;
+    passes(rt, alloc, row)
+}
+
+fn has_row(rt: &impl Abort, alloc: Global, line: &str) -> Result<(), Fail> {
+    match row_of(alloc, line)? {
+        Some(row) => is_so(rt, alloc, &row),
+        None => panic!(rt; "{line}"),
+    }
+}
+
 // Each of so many rows is so.
 fn has_rows(rt: &impl Abort, alloc: Global, table: &str, count: usize) -> Result<(), Fail> {
     let mut rows: usize = 0;
     for line in table.lines() {
         if line.contains("|") {
-            match row_of(alloc, line)? {
-                Some(row) => {
-                    tests(rt, alloc, &row)?;
-                    passes(rt, alloc, &row)?;
-                }
-                None => panic!(rt; "{line}"),
-            }
+            has_row(rt, alloc, line)?;
             rows = rows.saturating_add(1);
         }
     }
