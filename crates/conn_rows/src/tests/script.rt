@@ -135,7 +135,7 @@ fn of_child<'t>(words: &'t Words) -> Option<Heard<'t>> {
     Some(match words.name {
         "Started" => Heard::Started(k),
         "StartFailed" => Heard::StartFailed(k),
-        "StartFull" => Heard::StartFull(k, words.count as u32),
+        "StartFull" => Heard::StartFull(k, u32::try_from(words.count).ok()?),
         "Out" => Heard::Out(k, words.text()),
         "OutEnd" => Heard::OutEnd(k),
         "OutBroken" => Heard::OutBroken(k),
@@ -151,12 +151,12 @@ fn of_client<'t>(words: &'t Words) -> Option<Heard<'t>> {
     Some(match words.name {
         "Accept" => Heard::Accept,
         "Client" => Heard::Client(words.text()),
-        "Fill" => Heard::Fill(words.number as u8, words.count as usize),
+        "Fill" => Heard::Fill(u8::try_from(words.number).ok()?, words.count as usize),
         "End" => Heard::End,
         "Gone" => Heard::Gone,
         "Wrote" => Heard::Wrote(words.count),
         "Tick" => Heard::Tick(words.number),
-        "Ticks" => Heard::Ticks(words.number as u32),
+        "Ticks" => Heard::Ticks(u32::try_from(words.number).ok()?),
         "NoRoom" => Heard::NoRoom,
         "Stop" => Heard::Stop,
         _ => return None,

@@ -204,7 +204,7 @@ fn of_child<'t>(words: &'t Words) -> Option<Heard<'t>> {
     Some(match words.name {
         "Started" => Heard::Started(k),
         "StartFailed" => Heard::StartFailed(k),
-        "StartFull" => Heard::StartFull(k, words.count as u32),
+        "StartFull" => Heard::StartFull(k, u32::try_from(words.count).ok()?),
         "Output" => Heard::Output(k, words.bytes.as_slice()),
         "OutputFill" => Heard::OutputFill(k, words.count as usize),
         "OutputEof" => Heard::OutputEof(k),
@@ -227,7 +227,7 @@ fn of_client<'t>(words: &'t Words) -> Option<Heard<'t>> {
         "NoRoom" => Heard::NoRoom(c),
         "Wrote" => Heard::Wrote(c, words.count),
         "TickAt" => Heard::TickAt(c),
-        "Ticks" => Heard::Ticks(c as u32),
+        "Ticks" => Heard::Ticks(u32::try_from(c).ok()?),
         "Stop" => Heard::Stop,
         _ => return None,
     })
