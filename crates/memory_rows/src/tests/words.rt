@@ -60,7 +60,7 @@ fn child_heard_in(name: &str, k: u64, n: u64) -> Option<Heard> {
     Some(match name {
         "Started" => Heard::Started(k),
         "StartFailed" => Heard::StartFailed(k),
-        "StartFull" => Heard::StartFull(k, n as u32),
+        "StartFull" => Heard::StartFull(k, u32::try_from(n).ok()?),
         "ChildBytes" => Heard::ChildBytes(k, n as usize),
         "ChildEof" => Heard::ChildEof(k),
         "ChildBroken" => Heard::ChildBroken(k),
