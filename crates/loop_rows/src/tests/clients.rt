@@ -5,7 +5,6 @@ use host_base::{Bytes, NoMemory};
 use host_trace::{Act, Event, Why};
 use socket_set::{Polled, Ports, SocketSet};
 use std::alloc::Global;
-use std::process::Abort;
 use std::test::Fail;
 
 // What was told, by a letter.
@@ -77,24 +76,34 @@ const HELLO: &[u8] = &[
     0x81, 0x85, 0x37, 0xfa, 0x21, 0x3d, 0x7f, 0x9f, 0x4d, 0x51, 0x58,
 ];
 
-// Each row: what the client does, what is asked for, what is told, how often something failed.
-fn check_rows(
-    rt: &impl Abort,
+// What a set over these ports tells, and how often something failed.
+fn run<P: Ports + Drop>(
     alloc: Global,
-    rows: &[(Plan, &[u8], &[u8], u64)],
-) -> Result<(), Fail> {
+    ports: P,
+    script: &[u8],
+) -> Result<(Vec<u8>, u64), NoMemory> {
+    let mut set = SocketSet::new(alloc, ports, 4)?;
+    let told = told_in(alloc, &mut set, script)?;
+    Ok((told, set.faults()))
+}
+
+/// What the client does, what is asked for, what is told, how often something failed.
+type Row = (Plan, &'static [u8], &'static [u8], u64);
+
+// What the first row that isn't so wants to be told.
+fn wrong_row(alloc: Global, rows: &[Row]) -> Result<Option<&'static [u8]>, NoMemory> {
     for (plan, script, wanted, faults) in rows {
-        let mut set = SocketSet::new(alloc, FakePorts::new(alloc, *plan), 4)?;
-        let told = told_in(alloc, &mut set, script)?;
-        assert_eq!(rt; told.as_slice(), *wanted);
-        assert_eq!(rt; set.faults(), *faults);
+        let (told, count) = run(alloc, FakePorts::new(alloc, *plan), script)?;
+        if told.as_slice() != *wanted || count != *faults {
+            return Ok(Some(*wanted));
+        }
     }
-    Ok(())
+    Ok(None)
 }
 
 #[test]
 fn what_comes_is_told_once(rt: HostRuntime) -> Result<(), Fail> {
-    let rows: [(Plan, &[u8], &[u8], u64); 6] = [
+    let rows: [Row; 6] = [
         (PLAIN, b"ppwpwpp", b"A-b--", 0),
         (
             Plan {
@@ -135,12 +144,13 @@ fn what_comes_is_told_once(rt: HostRuntime) -> Result<(), Fail> {
             1,
         ),
     ];
-    check_rows(&rt, rt.alloc(), &rows)
+    assert_eq!(rt; wrong_row(rt.alloc(), &rows)?, None);
+    Ok(())
 }
 
 #[test]
 fn ends_ticks_and_failures_are_told(rt: HostRuntime) -> Result<(), Fail> {
-    let rows: [(Plan, &[u8], &[u8], u64); 6] = [
+    let rows: [Row; 6] = [
         (PLAIN, b"pWspwp", b"A--", 0),
         (
             Plan {
@@ -172,5 +182,6 @@ fn ends_ticks_and_failures_are_told(rt: HostRuntime) -> Result<(), Fail> {
         ),
         (PLAIN, b"epzp", b"-t", 0),
     ];
-    check_rows(&rt, rt.alloc(), &rows)
+    assert_eq!(rt; wrong_row(rt.alloc(), &rows)?, None);
+    Ok(())
 }

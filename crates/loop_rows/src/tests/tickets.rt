@@ -1,13 +1,9 @@
 ghost use Rattle.std.specs.Prelude.{◌≡◌};
 
-mod fake_kid;
-mod fake_spawner;
-mod fakes;
-
+use super::fake_spawner::{FakeSpawner, Plan};
 use booked_children::BookedChildren;
 use child_book::{Blank, Book, Ledger};
 use child_edge::{ChildSet, Spawner};
-use fake_spawner::{FakeSpawner, Plan};
 use host_base::{Bytes, Launch, NoMemory, Pairs, Text, Texts};
 use host_trace::{Act, Event};
 use std::alloc::Global;
@@ -70,6 +66,18 @@ struct Ran {
     told: Result<Vec<u8>, NoMemory>,
     running: usize,
     left: u32,
+}
+
+impl Ran {
+    // Whether this was told, so many ran then, and the book counted none in the end.
+    fn is_so(&self, told: &[u8], running: usize) -> bool {
+        match &self.told {
+            Ok(letters) => {
+                letters.as_slice() == told && self.running == running && self.left == 0
+            }
+            Err(_) => false,
+        }
+    }
 }
 
 fn run_children<L: Ledger, R: Wait + Copy + Drop>(
@@ -157,10 +165,7 @@ fn no_ticket_is_lost(rt: HostRuntime) -> Result<(), Fail> {
     ];
     for (plan, turns, wanted, running) in rows {
         let ran = run_children::<Brand, _>(rt, alloc, Blank::new(16), plan, turns)?;
-        let told = ran.told?;
-        assert_eq!(rt; told.as_slice(), wanted);
-        assert_eq!(rt; ran.running, running);
-        assert_eq!(rt; ran.left, 0);
+        assert!(rt; ran.is_so(wanted, running), "{wanted:?}");
     }
     Ok(())
 }

@@ -1,18 +1,8 @@
 // Sockets and ports in memory for the tests.
-ghost use Rattle.std.specs.Prelude.{◌≤◌};
-ghost use Rattle.host_base.specs.Outsides.{Rose};
-
+use super::super::fakes::one_more;
 use host_base::{Peer, Text};
 use socket_set::{Arrival, Ports, Ready, Received, Sent, Socket};
 use std::alloc::Global;
-
-/// A count after one more.
-fn one_more(count: u64) -> u64
-    ensures more { count ≤ result }
-    ensures rose { Rose count result }
-{
-    count.saturating_add(1)
-}
 
 /// What comes after the bytes of a client.
 #[derive(Clone, Copy)]

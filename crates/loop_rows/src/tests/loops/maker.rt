@@ -1,6 +1,7 @@
 // What makes loops over memory for the tests.
-use super::kids::FakeSpawner;
-use super::ports::{FakeOrders, FakePorts, Plan, one_more};
+use super::super::fake_spawner::FakeSpawner;
+use super::super::fakes::one_more;
+use super::ports::{FakeOrders, FakePorts, Plan};
 use edge_loop::{Maker, Parts};
 use host_base::Site;
 use host_trace::EnterFault;
@@ -50,7 +51,7 @@ impl<R: Wait + Copy + Drop> Maker for FakeMaker<R> {
         self.left -= 1;
         Ok(Parts {
             ports: FakePorts::new(self.alloc, self.plan),
-            spawner: FakeSpawner::new(self.rt, self.plan),
+            spawner: FakeSpawner::new(self.rt, self.plan.program()),
             orders: FakeOrders::new(self.plan),
         })
     }

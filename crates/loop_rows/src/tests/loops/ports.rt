@@ -1,19 +1,10 @@
 // Clients, a clock and orders in memory for the tests.
-ghost use Rattle.std.specs.Prelude.{◌≤◌};
-ghost use Rattle.host_base.specs.Outsides.{Rose};
-
+use super::super::fake_spawner;
+use super::super::fakes::one_more;
 use edge_loop::{Order, Orders};
 use host_base::{Peer, Text};
 use socket_set::{Arrival, Ports, Ready, Received, Sent, Socket};
 use std::alloc::Global;
-
-/// A count after one more.
-pub fn one_more(count: u64) -> u64
-    ensures more { count ≤ result }
-    ensures rose { Rose count result }
-{
-    count.saturating_add(1)
-}
 
 /// What the devices of a loop do.
 #[derive(Clone, Copy)]
@@ -29,6 +20,20 @@ pub struct Plan {
     /// What is ordered, and before which event.
     pub order: Option<Order>,
     pub at: u32,
+}
+
+impl Plan {
+    /// What each program does: it gives one byte, and takes all.
+    pub fn program(&self) -> fake_spawner::Plan {
+        fake_spawner::Plan {
+            pieces: 1,
+            out_fails: false,
+            in_fails: false,
+            reaps_fail: 0,
+            exits_after: self.exits_after,
+            start_fails: self.starts_fail,
+        }
+    }
 }
 
 /// A client that gives one byte and takes all.

@@ -2,7 +2,8 @@
 ghost use Rattle.std.specs.Prelude.{◌≡◌, Some, None};
 ghost use Rattle.pipe_pump.specs.Rings.{IsFreshFeed};
 
-use super::pipes::{Drain, Source, one_more};
+use super::super::fakes::one_more;
+use super::pipes::{Drain, Source};
 use child_edge::{Kid, Reap, SpawnFault, Spawner};
 use host_base::Launch;
 use pipe_pump::{FeedRing, PumpDone, PumpEnd, PumpRing, pump_in};

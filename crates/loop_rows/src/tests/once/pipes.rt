@@ -2,20 +2,13 @@
 ghost use Rattle.std.specs.Prelude.{◌≡◌, ◌≤◌, false};
 ghost use Rattle.host_base.specs.Outsides.{Rose};
 
+use super::super::fakes::one_more;
 use host_base::{Sink, SinkFault};
 use pipe_pump::{PipeIn, PipeOut, PipeRead, PipeWrite};
 use std::alloc::Global;
 use std::sync::Arc;
 use std::sync::atomic::{AtomicBool, Ordering};
 use std::thread;
-
-/// A count after one more.
-pub fn one_more(count: u64) -> u64
-    ensures more { count ≤ result }
-    ensures rose { Rose count result }
-{
-    count.saturating_add(1)
-}
 
 /// How often a gate is tried.
 const TRIES: u32 = 1_048_576;
