@@ -1,6 +1,8 @@
 // What the shared types and the small parts give.
 mod children;
 mod clocks;
+mod handshakes;
 mod lines;
+mod links;
 mod shown;
 mod types;

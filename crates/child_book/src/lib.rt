@@ -11,6 +11,3 @@ pub use full::{FullCount, FullSeen};
 pub use laws::tickets_differ;
 pub use std::sync::ledger::{Blank, Ledger, Share};
 pub use ticket::{Admit, Ticket};
-
-#[cfg(test)]
-mod tests;

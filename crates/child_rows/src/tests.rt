@@ -1,2 +1,3 @@
-// What the run of one child does.
+// What the run of one child does, and what the marks of a connection say.
+mod marks;
 mod runs;

@@ -3,8 +3,6 @@
 
 mod laws;
 mod marks;
-#[cfg(test)]
-mod tests;
 
 pub use laws::{
     acts_are_known, events_may_come, fits_are_exact, idle_items_change_nothing, items_are_known,

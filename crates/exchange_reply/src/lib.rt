@@ -4,8 +4,6 @@
 mod fault;
 mod laws;
 mod reply;
-#[cfg(test)]
-mod tests;
 
 pub use fault::fault_text;
 pub use laws::{

@@ -7,6 +7,3 @@ mod site;
 pub use all::serve_all;
 pub use host_conns::HostConn;
 pub use site::serve_site;
-
-#[cfg(test)]
-mod tests;

@@ -1,6 +1,7 @@
 // What is read of an output and written of it, part by part.
 mod cells;
 mod derived;
+mod exchanges;
 mod headers;
 mod messages;
 mod replies;

@@ -9,6 +9,3 @@ mod report;
 
 pub use events::sample;
 pub use report::sample_text;
-
-#[cfg(test)]
-mod tests;

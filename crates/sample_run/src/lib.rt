@@ -8,6 +8,3 @@ mod run;
 
 pub use report::sample_report;
 pub use run::run_sample;
-
-#[cfg(test)]
-mod tests;

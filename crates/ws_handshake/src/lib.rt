@@ -5,8 +5,6 @@ mod accept;
 mod checks;
 mod key;
 mod laws;
-#[cfg(test)]
-mod tests;
 
 pub use accept::{Accept, accept_text};
 pub use checks::check;

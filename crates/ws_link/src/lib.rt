@@ -4,8 +4,6 @@
 mod answer;
 mod link;
 mod pipe;
-#[cfg(test)]
-mod tests;
 
 pub use answer::{Linked, Said};
 pub use link::Link;

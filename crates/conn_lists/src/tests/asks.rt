@@ -40,7 +40,7 @@ const NO_EXTRA: Extra = Extra {
     told_later: "",
 };
 
-const EXTRAS: [Extra; 5] = [
+static EXTRAS: [Extra; 5] = [
     NO_EXTRA,
     NO_EXTRA,
     Extra {
@@ -76,9 +76,9 @@ pub struct Ask {
     pub typed: bool,
     pub body: Bytes,
     pub bad: Option<Bad>,
-    pub seat: Seat,
-    pub target: Target,
-    pub extra: Extra,
+    pub seat: &'static Seat,
+    pub target: &'static Target,
+    pub extra: &'static Extra,
     pub roles: Vec<Role>,
     // The client waits behind the head until nothing else goes on.
     pub waits: bool,
@@ -100,7 +100,7 @@ fn is_read(method: &str) -> bool {
 
 impl Ask {
     // Search words are told where they are read.
-    pub fn args(&self, hop: usize, target: Target) -> &'static [&'static str] {
+    pub fn args(&self, hop: usize, target: &Target) -> &'static [&'static str] {
         if hop > 0 || is_read(self.method) {
             target.args
         } else {
@@ -108,7 +108,7 @@ impl Ask {
         }
     }
 
-    fn new(alloc: Global, seat: Seat, target: Target) -> Self {
+    fn new(alloc: Global, seat: &'static Seat, target: &'static Target) -> Self {
         Ask {
             bytes: Bytes::new(alloc),
             lead: 0,
@@ -123,7 +123,7 @@ impl Ask {
             bad: None,
             seat,
             target,
-            extra: NO_EXTRA,
+            extra: &NO_EXTRA,
             roles: Vec::new(alloc),
             waits: false,
         }
@@ -263,7 +263,7 @@ struct Broken {
     read: bool,
 }
 
-const BROKEN: [Broken; 15] = [
+static BROKEN: [Broken; 15] = [
     Broken {
         text: " / HTTP/2.0\r\nHost: a\r\n\r\n",
         cause: Cause::BadHead,
@@ -460,10 +460,10 @@ fn body_of(alloc: Global, len: usize) -> Result<Bytes, NoMemory> {
     Ok(bytes)
 }
 
-fn extra_at(place: usize) -> Extra {
+fn extra_at(place: usize) -> &'static Extra {
     match EXTRAS.get(place) {
-        Some(extra) => *extra,
-        None => NO_EXTRA,
+        Some(extra) => extra,
+        None => &NO_EXTRA,
     }
 }
 
@@ -494,9 +494,9 @@ fn choose(alloc: Global, numbers: &mut Numbers, ask: &mut Ask) -> Result<(), NoM
     Ok(())
 }
 
-fn seat_of(numbers: &mut Numbers, old: bool) -> Seat {
+fn seat_of(numbers: &mut Numbers, old: bool) -> &'static Seat {
     if old && numbers.once_in(2) {
-        NO_SEAT
+        &NO_SEAT
     } else {
         seat_at(numbers.place(seat_count()))
     }
@@ -505,7 +505,7 @@ fn seat_of(numbers: &mut Numbers, old: bool) -> Seat {
 fn role_at(
     alloc: Global,
     numbers: &mut Numbers,
-    target: Target,
+    target: &Target,
     whose: Whose,
 ) -> Result<Role, NoMemory> {
     let mut role = role_of(alloc, numbers, target, whose)?;
@@ -540,7 +540,7 @@ fn make_flood(
     ask: &mut Ask,
 ) -> Result<(), NoMemory> {
     ask.push_head(alloc, numbers)?;
-    let role = flood_role(alloc, ask.target, more)?;
+    let role = flood_role(alloc, more)?;
     ask.roles.push(role)?;
     Ok(())
 }

@@ -108,13 +108,6 @@ fn course_of(alloc: Global, story: &Story, cut: Cut, seed: u64) -> Result<Course
     Ok(course)
 }
 
-// What the plain program does in one cut, and where the connection does otherwise.
-#[derive(Drop)]
-struct Played {
-    told: Told,
-    fault: String,
-}
-
 // From where two texts differ on.
 fn first_line_apart(alloc: Global, own: &str, due: &str) -> Result<String, NoMemory> {
     let mut place = 0usize;
@@ -142,6 +135,26 @@ fn judged(alloc: Global, due: &Told, out: &Recorder) -> Result<String, NoMemory>
     first_line_apart(alloc, own.log.as_str(), due.log.as_str())
 }
 
+// Where a connection does otherwise than the plain program.
+fn course_fault(
+    alloc: Global,
+    site: &Site,
+    events: Vec<Event>,
+    due: &Told,
+) -> Result<String, NoMemory>
+    requires { IsServed site.now }
+{
+    let out = play(alloc, site, events);
+    judged(alloc, due, &out)
+}
+
+// What the plain program does in one cut, and where the connection does otherwise.
+#[derive(Drop)]
+struct Played {
+    told: Told,
+    fault: String,
+}
+
 fn play_cut(
     alloc: Global,
     site: &Site,
@@ -151,15 +164,13 @@ fn play_cut(
 ) -> Result<Played, NoMemory>
     requires { IsServed site.now }
 {
-    let course = course_of(alloc, story, cut, seed)?;
     let Course {
         events,
         plain,
         over,
-    } = course;
-    let out = play(alloc, site, events);
+    } = course_of(alloc, story, cut, seed)?;
     let fault = if over {
-        judged(alloc, &plain.told, &out)?
+        course_fault(alloc, site, events, &plain.told)?
     } else {
         format!(in alloc; "it doesn't end")?
     };
@@ -188,10 +199,38 @@ fn other_fault(
     requires { IsServed site.now }
 {
     let played = play_cut(alloc, site, story, cut, seed)?;
-    if !played.fault.as_str().is_empty() || !story.is_steady() || agree(whole, &played.told) {
+    let agrees = !story.is_steady() || agree(whole, &played.told);
+    if agrees || !played.fault.as_str().is_empty() {
         return Ok(played.fault);
     }
     Ok(format!(in alloc; "it depends on its cut")?)
+}
+
+// Where a story goes otherwise in single bytes, or in pieces.
+fn cut_fault(
+    alloc: Global,
+    site: &Site,
+    story: &Story,
+    seed: u64,
+    whole: &Told,
+) -> Result<String, NoMemory>
+    requires { IsServed site.now }
+{
+    let single = other_fault(alloc, site, story, Cut::Single, seed, whole)?;
+    if !single.as_str().is_empty() {
+        return Ok(single);
+    }
+    other_fault(alloc, site, story, Cut::Seeded, seed, whole)
+}
+
+fn story_fault(alloc: Global, site: &Site, story: &Story, seed: u64) -> Result<String, NoMemory>
+    requires { IsServed site.now }
+{
+    let whole = play_cut(alloc, site, story, Cut::Whole, seed)?;
+    if !whole.fault.as_str().is_empty() {
+        return Ok(whole.fault);
+    }
+    cut_fault(alloc, site, story, seed, &whole.told)
 }
 
 // Where a story goes otherwise than it must; nothing where it doesn't.
@@ -199,13 +238,5 @@ pub fn fault_of(alloc: Global, site: &Site, seed: u64) -> Result<String, NoMemor
     requires { IsServed site.now }
 {
     let story = story_of(alloc, seed)?;
-    let whole = play_cut(alloc, site, &story, Cut::Whole, seed)?;
-    if !whole.fault.as_str().is_empty() {
-        return Ok(whole.fault);
-    }
-    let single = other_fault(alloc, site, &story, Cut::Single, seed, &whole.told)?;
-    if !single.as_str().is_empty() {
-        return Ok(single);
-    }
-    other_fault(alloc, site, &story, Cut::Seeded, seed, &whole.told)
+    story_fault(alloc, site, &story, seed)
 }

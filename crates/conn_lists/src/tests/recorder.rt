@@ -32,18 +32,33 @@ fn push_line(text: &mut String, line: &str) -> Result<(), NoMemory> {
     Ok(())
 }
 
-fn text_of(alloc: Global, launch: &Launch) -> Result<String, NoMemory> {
-    let mut text = String::new(alloc);
-    push_line(&mut text, launch.program.as_str())?;
-    push_line(&mut text, launch.dir.as_str())?;
+fn push_args(text: &mut String, launch: &Launch) -> Result<(), NoMemory> {
     for arg in launch.args.as_slice() {
-        push_line(&mut text, arg.as_str())?;
+        push_line(text, arg.as_str())?;
     }
+    Ok(())
+}
+
+fn push_env(text: &mut String, launch: &Launch) -> Result<(), NoMemory> {
     for pair in launch.env.as_slice() {
         text.push_str(pair.name.as_str())?;
         text.push('=')?;
-        push_line(&mut text, pair.value.as_str())?;
+        push_line(text, pair.value.as_str())?;
     }
+    Ok(())
+}
+
+fn push_launch(text: &mut String, launch: &Launch) -> Result<(), NoMemory> {
+    push_line(text, launch.program.as_str())?;
+    push_line(text, launch.dir.as_str())?;
+    push_args(text, launch)?;
+    push_env(text, launch)
+}
+
+// The program, its folder, its arguments and its environment, one a line.
+fn text_of(alloc: Global, launch: &Launch) -> Result<String, NoMemory> {
+    let mut text = String::new(alloc);
+    push_launch(&mut text, launch)?;
     Ok(text)
 }
 

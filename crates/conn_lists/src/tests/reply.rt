@@ -76,46 +76,46 @@ pub struct Front {
     pub close: bool,
 }
 
-fn push_shape(alloc: Global, text: &mut String, shape: Shape) -> Result<(), NoMemory> {
-    match shape {
-        Shape::Bare | Shape::ToClose => {}
-        Shape::Chunked => text.push_str("Transfer-Encoding: chunked\r\n")?,
-        Shape::Length(count) => {
-            let line = format!(in alloc; "Content-Length: {count}\r\n")?;
-            text.push_str(line.as_str())?;
-        }
+fn push_all(bytes: &mut Bytes, texts: &[&str]) -> Result<(), NoMemory> {
+    for text in texts {
+        bytes.extend_from_slice(text.as_bytes())?;
     }
     Ok(())
 }
 
-// The head of a reply.
-pub fn front_text(alloc: Global, front: &Front) -> Result<String, NoMemory> {
-    let mut text = String::from_str(alloc, "HTTP/1.1 ")?;
-    text.push_str(front.line)?;
-    text.push_str("\r\n")?;
-    text.push_str(front.fields)?;
-    if let Some(secs) = front.date {
-        text.push_str("Date: ")?;
-        text.push_str(date_of(secs))?;
-        text.push_str("\r\n")?;
+fn push_shape(alloc: Global, bytes: &mut Bytes, shape: Shape) -> Result<(), NoMemory> {
+    match shape {
+        Shape::Bare | Shape::ToClose => Ok(()),
+        Shape::Chunked => push_all(bytes, &["Transfer-Encoding: chunked\r\n"]),
+        Shape::Length(count) => {
+            let line = format!(in alloc; "Content-Length: {count}\r\n")?;
+            bytes.extend_from_slice(line.as_bytes())
+        }
     }
-    push_shape(alloc, &mut text, front.shape)?;
-    text.push_str(if front.close {
-        "Connection: close\r\n\r\n"
-    } else {
-        "\r\n"
-    })?;
-    Ok(text)
 }
 
-// The host's own reply.
-pub fn fault_text(
+// Adds the head of a reply.
+pub fn push_front(alloc: Global, bytes: &mut Bytes, front: &Front) -> Result<(), NoMemory> {
+    push_all(bytes, &["HTTP/1.1 ", front.line, "\r\n", front.fields])?;
+    if let Some(secs) = front.date {
+        push_all(bytes, &["Date: ", date_of(secs), "\r\n"])?;
+    }
+    push_shape(alloc, bytes, front.shape)?;
+    if front.close {
+        push_all(bytes, &["Connection: close\r\n"])?;
+    }
+    push_all(bytes, &["\r\n"])
+}
+
+// Adds the host's own reply.
+pub fn push_fault(
     alloc: Global,
+    bytes: &mut Bytes,
     cause: Cause,
     bare: bool,
     close: bool,
     date: Option<u64>,
-) -> Result<String, NoMemory> {
+) -> Result<(), NoMemory> {
     let (line, said) = line_of(cause);
     let fields = match cause {
         Cause::UpgradeNeeded => {
@@ -135,21 +135,29 @@ pub fn fault_text(
         shape,
         close,
     };
-    let mut text = front_text(alloc, &front)?;
-    if !bare {
-        text.push_str(said)?;
+    push_front(alloc, bytes, &front)?;
+    if bare {
+        return Ok(());
     }
-    Ok(text)
+    push_all(bytes, &[said])
 }
 
-// A part of a body as it stands in a reply of this shape.
-pub fn part_text(alloc: Global, shape: Shape, part: &[u8]) -> Result<Bytes, NoMemory> {
+fn push_size(alloc: Global, bytes: &mut Bytes, size: usize) -> Result<(), NoMemory> {
+    let line = format!(in alloc; "{:x}\r\n", size)?;
+    bytes.extend_from_slice(line.as_bytes())
+}
+
+// Adds a part of a body as it stands in a reply of this shape.
+pub fn push_part(
+    alloc: Global,
+    bytes: &mut Bytes,
+    shape: Shape,
+    part: &[u8],
+) -> Result<(), NoMemory> {
     if shape != Shape::Chunked || part.is_empty() {
-        return Bytes::from_slice(alloc, part);
+        return bytes.extend_from_slice(part);
     }
-    let size = format!(in alloc; "{:x}\r\n", part.len())?;
-    let mut bytes = Bytes::from_slice(alloc, size.as_bytes())?;
+    push_size(alloc, bytes, part.len())?;
     bytes.extend_from_slice(part)?;
-    bytes.extend_from_slice(b"\r\n".as_slice())?;
-    Ok(bytes)
+    push_all(bytes, &["\r\n"])
 }

@@ -26,7 +26,7 @@ pub enum Says {
         manner: Manner,
     },
     Raw,
-    Hop(Target),
+    Hop(&'static Target),
     Fault(Cause),
 }
 
@@ -51,7 +51,7 @@ const PLAIN: Output = Output {
     says: PLAIN_SAYS,
 };
 
-const OUTPUTS: [Output; 18] = [
+static OUTPUTS: [Output; 18] = [
     PLAIN,
     PLAIN,
     PLAIN,
@@ -206,8 +206,6 @@ pub enum Deed {
 // The child of one hop.
 #[derive(Drop)]
 pub struct Role {
-    // Where it stands.
-    pub target: Target,
     pub nph: bool,
     pub output: Bytes,
     // How long the header of its output is.
@@ -220,19 +218,14 @@ pub struct Role {
 
 // ---- outputs
 
-fn output_at(place: usize) -> Output {
-    match OUTPUTS.get(place) {
-        Some(output) => *output,
-        None => PLAIN,
-    }
+fn output_at(place: usize) -> &'static Output {
+    &OUTPUTS[place % 18]
 }
 
-// A location, and the output that redirects to it.
-fn hop_output(alloc: Global, target: Target) -> Result<Bytes, NoMemory> {
-    let mut bytes = Bytes::from_slice(alloc, b"Location: ".as_slice())?;
-    bytes.extend_from_slice(target.text.as_bytes())?;
-    bytes.extend_from_slice(b"\nX-A: 1\n\n".as_slice())?;
-    Ok(bytes)
+// The output that redirects to a target.
+fn hop_output(alloc: Global, to: &Target) -> Result<Bytes, NoMemory> {
+    let text = format!(in alloc; "Location: {}\nX-A: 1\n\n", to.text)?;
+    Bytes::from_slice(alloc, text.as_bytes())
 }
 
 fn fill(bytes: &mut Bytes, count: usize) -> Result<(), NoMemory> {
@@ -254,77 +247,58 @@ fn more_of(numbers: &mut Numbers) -> usize {
     }
 }
 
-fn plain_role(
-    alloc: Global,
-    target: Target,
-    output: Output,
-    more: usize,
-) -> Result<Role, NoMemory> {
-    let mut bytes = Bytes::from_slice(alloc, output.head.as_bytes())?;
+fn push_output(bytes: &mut Bytes, output: &Output, more: usize) -> Result<(), NoMemory> {
+    bytes.extend_from_slice(output.head.as_bytes())?;
     bytes.extend_from_slice(output.body.as_bytes())?;
-    fill(&mut bytes, more)?;
-    Ok(Role {
-        target,
-        nph: false,
-        output: bytes,
-        head: output.head.len(),
-        says: output.says,
-        takes: true,
-        deeds: Vec::new(alloc),
-    })
+    fill(bytes, more)
 }
 
-fn hop_role(alloc: Global, target: Target, to: Target) -> Result<Role, NoMemory> {
-    let output = hop_output(alloc, to)?;
-    let head = output.len();
-    Ok(Role {
-        target,
+fn role_with(alloc: Global, output: Bytes, head: usize, says: Says) -> Role {
+    Role {
         nph: false,
         output,
         head,
-        says: Says::Hop(to),
+        says,
         takes: true,
         deeds: Vec::new(alloc),
-    })
+    }
+}
+
+fn plain_role(alloc: Global, output: &Output, more: usize) -> Result<Role, NoMemory> {
+    let mut bytes = Bytes::new(alloc);
+    push_output(&mut bytes, output, more)?;
+    Ok(role_with(alloc, bytes, output.head.len(), output.says))
+}
+
+fn hop_role(alloc: Global, to: &'static Target) -> Result<Role, NoMemory> {
+    let output = hop_output(alloc, to)?;
+    let head = output.len();
+    Ok(role_with(alloc, output, head, Says::Hop(to)))
 }
 
 // A header that is longer than may be.
-fn endless_role(alloc: Global, target: Target) -> Result<Role, NoMemory> {
+fn endless_role(alloc: Global) -> Result<Role, NoMemory> {
     let mut output = Bytes::from_slice(alloc, b"Content-Type: ".as_slice())?;
     fill(&mut output, 8300)?;
-    Ok(Role {
-        target,
-        nph: false,
-        output,
-        head: usize::MAX,
-        says: Says::Fault(Cause::HeaderTooLarge),
-        takes: true,
-        deeds: Vec::new(alloc),
-    })
+    let says = Says::Fault(Cause::HeaderTooLarge);
+    Ok(role_with(alloc, output, usize::MAX, says))
 }
 
-fn is_nph(target: Target) -> bool {
+fn is_nph(target: &Target) -> bool {
     match target.place {
         Place::Runs { nph, .. } => nph,
         Place::Refused(_) => false,
     }
 }
 
-fn script_role(
-    alloc: Global,
-    numbers: &mut Numbers,
-    target: Target,
-    whose: Whose,
-) -> Result<Role, NoMemory> {
+fn script_role(alloc: Global, numbers: &mut Numbers, whose: Whose) -> Result<Role, NoMemory> {
     match numbers.below(40) {
-        0 => endless_role(alloc, target),
-        1 | 2 | 3 | 4 | 5 | 6 | 7 | 8 => {
-            hop_role(alloc, target, location_at(whose, numbers.place(24)))
-        }
+        0 => endless_role(alloc),
+        1 | 2 | 3 | 4 | 5 | 6 | 7 | 8 => hop_role(alloc, location_at(whose, numbers.place(24))),
         _ => {
             let output = output_at(numbers.place(OUTPUTS.len()));
             let more = more_of(numbers);
-            plain_role(alloc, target, output, more)
+            plain_role(alloc, output, more)
         }
     }
 }
@@ -333,21 +307,21 @@ fn script_role(
 pub fn role_of(
     alloc: Global,
     numbers: &mut Numbers,
-    target: Target,
+    target: &Target,
     whose: Whose,
 ) -> Result<Role, NoMemory> {
     if !is_nph(target) {
-        return script_role(alloc, numbers, target, whose);
+        return script_role(alloc, numbers, whose);
     }
     let more = more_of(numbers);
-    let mut role = plain_role(alloc, target, RAW, more)?;
+    let mut role = plain_role(alloc, &RAW, more)?;
     role.nph = true;
     Ok(role)
 }
 
 // A long output that goes well.
-pub fn flood_role(alloc: Global, target: Target, more: usize) -> Result<Role, NoMemory> {
-    let mut role = plain_role(alloc, target, PLAIN, more)?;
+pub fn flood_role(alloc: Global, more: usize) -> Result<Role, NoMemory> {
+    let mut role = plain_role(alloc, &PLAIN, more)?;
     let len = role.output.len();
     add_all(
         &mut role,

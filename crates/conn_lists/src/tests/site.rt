@@ -118,7 +118,7 @@ const PLAIN: Target = Target {
     args: &[],
 };
 
-const TARGETS: [Target; 14] = [
+static TARGETS: [Target; 14] = [
     Target {
         text: "/cgi/01234567890123456789012345678901234567890123456789012345678",
         place: ALL,
@@ -248,7 +248,7 @@ const TARGETS: [Target; 14] = [
 ];
 
 // What local redirects lead to.
-const LOCATIONS: [Target; 8] = [
+static LOCATIONS: [Target; 8] = [
     PLAIN,
     Target {
         text: "/cgi/form",
@@ -326,7 +326,7 @@ const ONLY_TARGET: Target = Target {
 };
 
 // Of a host that nobody serves.
-const UNKNOWN: Target = Target {
+static UNKNOWN: Target = Target {
     text: "/cgi",
     place: Place::Refused(Cause::UnknownHost),
     name: "",
@@ -336,7 +336,7 @@ const UNKNOWN: Target = Target {
     args: &[],
 };
 
-const OTHER_TARGETS: [Target; 3] = [
+static OTHER_TARGETS: [Target; 3] = [
     ONLY_TARGET,
     Target {
         text: "/only/%41?",
@@ -357,13 +357,6 @@ const OTHER_TARGETS: [Target; 3] = [
         args: &[],
     },
 ];
-
-fn at_or(table: &[Target], place: usize, other: Target) -> Target {
-    match table.get(place) {
-        Some(target) => *target,
-        None => other,
-    }
-}
 
 // A Host field, the name that the script is told, and whose scripts they are.
 #[derive(Clone, Copy)]
@@ -393,7 +386,7 @@ const PLAIN_SEAT: Seat = Seat {
     whose: Whose::First,
 };
 
-const SEATS: [Seat; 8] = [
+static SEATS: [Seat; 8] = [
     PLAIN_SEAT,
     PLAIN_SEAT,
     PLAIN_SEAT,
@@ -420,27 +413,24 @@ pub fn seat_count() -> usize {
     SEATS.len()
 }
 
-pub fn seat_at(place: usize) -> Seat {
-    match SEATS.get(place) {
-        Some(seat) => *seat,
-        None => PLAIN_SEAT,
-    }
+pub fn seat_at(place: usize) -> &'static Seat {
+    &SEATS[place % 8]
 }
 
 // A target of the host, by a number.
-pub fn target_at(whose: Whose, place: usize) -> Target {
+pub fn target_at(whose: Whose, place: usize) -> &'static Target {
     match whose {
-        Whose::First => at_or(&TARGETS, place % 14, PLAIN),
-        Whose::Second => at_or(&OTHER_TARGETS, place % 3, ONLY_TARGET),
-        Whose::Nobodys => UNKNOWN,
+        Whose::First => &TARGETS[place % 14],
+        Whose::Second => &OTHER_TARGETS[place % 3],
+        Whose::Nobodys => &UNKNOWN,
     }
 }
 
 // A local location there.
-pub fn location_at(whose: Whose, place: usize) -> Target {
+pub fn location_at(whose: Whose, place: usize) -> &'static Target {
     match whose {
-        Whose::First => at_or(&LOCATIONS, place % 8, PLAIN),
-        _ => at_or(&OTHER_TARGETS, place % 3, ONLY_TARGET),
+        Whose::First => &LOCATIONS[place % 8],
+        _ => &OTHER_TARGETS[place % 3],
     }
 }
 

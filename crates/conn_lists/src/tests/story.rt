@@ -2,7 +2,7 @@
 use super::asks::{Ask, Kind, Sized, ask_of};
 use super::numbers::Numbers;
 use super::roles::{Role, Says};
-use super::site::{CLOCKS, OUTPUT_LIMIT, Place};
+use super::site::{CLOCKS, OUTPUT_LIMIT, Place, Target};
 use host_base::{Bytes, NoMemory};
 use std::alloc::Global;
 
@@ -223,8 +223,8 @@ fn starves(ask: &Ask) -> bool {
     }
 }
 
-fn is_refused(place: Place) -> bool {
-    match place {
+fn is_refused(target: &Target) -> bool {
+    match target.place {
         Place::Refused(_) => true,
         Place::Runs { .. } => false,
     }
@@ -234,7 +234,7 @@ fn is_refused(place: Place) -> bool {
 fn depends(ask: &Ask, client_first: bool) -> bool {
     if ask.is_long() {
         let open = !ask.waits && !ask.close && !ask.old;
-        !client_first || starves(ask) || open && is_refused(ask.target.place)
+        !client_first || starves(ask) || open && is_refused(ask.target)
     } else {
         ask.sized == Sized::Chunked && ask.expects && ask.bad.is_some() && !ask.waits
     }

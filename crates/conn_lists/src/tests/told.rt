@@ -55,13 +55,19 @@ impl Told {
             return Ok(());
         }
         self.wrote.extend_from_slice(bytes)?;
-        let text = String::from_utf8_lossy(self.alloc, bytes)?;
         self.log.push_str("Write ")?;
+        let text = String::from_utf8_lossy(self.alloc, bytes)?;
         self.line(text.as_str())
     }
 
     pub fn say(&mut self, bytes: &[u8]) -> Result<(), NoMemory> {
         self.said.extend_from_slice(bytes)
+    }
+
+    // Bytes that stand in no chunk.
+    pub fn write_and_say(&mut self, bytes: &[u8]) -> Result<(), NoMemory> {
+        self.write(bytes)?;
+        self.say(bytes)
     }
 
     pub fn feed(&mut self, k: u64, bytes: &[u8]) -> Result<(), NoMemory> {
@@ -110,8 +116,8 @@ fn push_pair(text: &mut String, name: &str, value: &str) -> Result<(), NoMemory>
     Ok(())
 }
 
-fn push_program(text: &mut String, place: Place) -> Result<(), NoMemory> {
-    if let Place::Runs { program, dir, .. } = place {
+fn push_program(text: &mut String, target: &Target) -> Result<(), NoMemory> {
+    if let Place::Runs { program, dir, .. } = target.place {
         text.push_str(program)?;
         text.push('\n')?;
         text.push_str(dir)?;
@@ -149,7 +155,7 @@ fn method_at(ask: &Ask, hop: usize) -> &'static str {
     }
 }
 
-fn push_place(text: &mut String, target: Target) -> Result<(), NoMemory> {
+fn push_place(text: &mut String, target: &Target) -> Result<(), NoMemory> {
     push_pair(text, "PATH_INFO", target.info)?;
     push_pair(text, "PATH_TRANSLATED", target.translated)?;
     push_pair(text, "QUERY_STRING", target.query)?;
@@ -157,39 +163,59 @@ fn push_place(text: &mut String, target: Target) -> Result<(), NoMemory> {
     push_pair(text, "REMOTE_HOST", "192.0.2.1")
 }
 
-// The program, its folder, its arguments and its environment, one a line.
-pub fn launch_text(
-    alloc: Global,
-    ask: &Ask,
-    target: Target,
-    hop: usize,
-) -> Result<String, NoMemory> {
-    let mut text = String::new(alloc);
-    push_program(&mut text, target.place)?;
-    for arg in ask.args(hop, target) {
-        text.push_str(*arg)?;
-        text.push('\n')?;
-    }
-    if hop == 0 {
-        push_body(alloc, &mut text, ask)?;
-    }
-    push_pair(&mut text, "GATEWAY_INTERFACE", "CGI/1.1")?;
-    push_place(&mut text, target)?;
-    push_pair(&mut text, "REQUEST_METHOD", method_at(ask, hop))?;
-    push_pair(&mut text, "SCRIPT_NAME", target.name)?;
-    push_pair(&mut text, "SERVER_NAME", server_name(ask))?;
-    push_pair(&mut text, "SERVER_PORT", "8080")?;
+fn push_server(text: &mut String, ask: &Ask) -> Result<(), NoMemory> {
+    push_pair(text, "SERVER_NAME", server_name(ask))?;
+    push_pair(text, "SERVER_PORT", "8080")?;
     push_pair(
-        &mut text,
+        text,
         "SERVER_PROTOCOL",
         if ask.old { "HTTP/1.0" } else { "HTTP/1.1" },
     )?;
-    push_pair(&mut text, "SERVER_SOFTWARE", "cgihost/1")?;
-    push_pair(&mut text, "HTTP_HOST", ask.seat.value)?;
+    push_pair(text, "SERVER_SOFTWARE", "cgihost/1")
+}
+
+fn push_args(text: &mut String, args: &[&str]) -> Result<(), NoMemory> {
+    for arg in args {
+        text.push_str(*arg)?;
+        text.push('\n')?;
+    }
+    Ok(())
+}
+
+fn push_launch(
+    alloc: Global,
+    text: &mut String,
+    ask: &Ask,
+    target: &Target,
+    hop: usize,
+) -> Result<(), NoMemory> {
+    push_program(text, target)?;
+    push_args(text, ask.args(hop, target))?;
+    if hop == 0 {
+        push_body(alloc, text, ask)?;
+    }
+    push_pair(text, "GATEWAY_INTERFACE", "CGI/1.1")?;
+    push_place(text, target)?;
+    push_pair(text, "REQUEST_METHOD", method_at(ask, hop))?;
+    push_pair(text, "SCRIPT_NAME", target.name)?;
+    push_server(text, ask)?;
+    push_pair(text, "HTTP_HOST", ask.seat.value)?;
     text.push_str(if hop == 0 {
         ask.extra.told
     } else {
         ask.extra.told_later
     })?;
+    Ok(())
+}
+
+// The program, its folder, its arguments and its environment, one a line.
+pub fn launch_text(
+    alloc: Global,
+    ask: &Ask,
+    target: &Target,
+    hop: usize,
+) -> Result<String, NoMemory> {
+    let mut text = String::new(alloc);
+    push_launch(alloc, &mut text, ask, target, hop)?;
     Ok(text)
 }

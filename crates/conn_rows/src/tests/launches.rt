@@ -3,7 +3,7 @@ ghost use Rattle.host_base.specs.SiteRules.{IsServed};
 
 use super::play::Heard::{Accept, Client, Exited, Out, OutEnd, Started};
 use super::play::{Heard, SITE, Script, drive};
-use super::recorder::Recorder;
+use super::recorder::{Recorder, push_line};
 use host_base::{NoMemory, Site};
 use site_file::read_site;
 use std::alloc::Global;
@@ -31,7 +31,7 @@ path = \"/cgi-bin/hello\"
 program = \"/srv/cgi/hello\"
 ";
 
-const CASES: [Case; 4] = [
+static CASES: [Case; 4] = [
     Case {
         site: ONE_WITHIN_THE_OTHER,
         heard: &[
@@ -149,40 +149,62 @@ fn record(alloc: Global, site: &Site, heard: &[Heard]) -> Result<Recorder, NoMem
     requires { IsServed site.now }
 {
     let mut script = Script::new(alloc, false);
-    for one in heard {
-        script.hear(*one)?;
-    }
+    script.hear_all(heard)?;
     Ok(drive(alloc, site, script, None))
 }
 
-fn lines(alloc: Global, lines: &[&'static str]) -> Result<String, NoMemory> {
-    let mut text = String::new(alloc);
+fn push_lines(text: &mut String, lines: &[&'static str]) -> Result<(), NoMemory> {
     for line in lines {
-        text.push_str(*line)?;
-        text.push('\n')?;
+        push_line(text, *line)?;
     }
+    Ok(())
+}
+
+// What a case starts children with, one a line.
+fn launched(alloc: Global, case: &Case) -> Result<String, NoMemory> {
+    let mut text = String::new(alloc);
+    push_lines(&mut text, case.launched)?;
     Ok(text)
 }
 
-// What children are started with and fed, where that is not what it must be; nothing where it is.
-fn other(alloc: Global, case: &Case) -> Result<String, NoMemory> {
-    let Ok(site) = read_site(alloc, case.site.as_bytes()) else {
-        return Ok(format!(in alloc; "no site")?);
-    };
-    let out = record(alloc, &site, case.heard)?;
-    let due = lines(alloc, case.launched)?;
-    if out.launched.as_str() == due.as_str() && out.fed.as_slice() == case.fed.as_bytes() {
+// Whether children are started with and fed what they must be.
+fn is_as_due(alloc: Global, case: &Case, out: &Recorder) -> Result<bool, NoMemory> {
+    let due = launched(alloc, case)?;
+    Ok(out.launched.as_str() == due.as_str() && out.fed.as_slice() == case.fed.as_bytes())
+}
+
+// What they are started with, where that or what they are fed is not what it must be; nothing where it is.
+fn other_at(alloc: Global, site: &Site, case: &Case) -> Result<String, NoMemory>
+    requires { IsServed site.now }
+{
+    let out = record(alloc, site, case.heard)?;
+    if is_as_due(alloc, case, &out)? {
         return Ok(String::new(alloc));
     }
-    Ok(out.launched)
+    Ok(format!(in alloc; "started {}", out.launched.as_str())?)
+}
+
+fn other(alloc: Global, case: &Case) -> Result<String, NoMemory> {
+    match read_site(alloc, case.site.as_bytes()) {
+        Ok(site) => other_at(alloc, &site, case),
+        Err(_) => Ok(format!(in alloc; "no site")?),
+    }
+}
+
+// The first that is not as it must be; nothing where all are.
+fn first_other(alloc: Global) -> Result<String, NoMemory> {
+    for case in CASES.as_slice() {
+        let said = other(alloc, case)?;
+        if !said.as_str().is_empty() {
+            return Ok(said);
+        }
+    }
+    Ok(String::new(alloc))
 }
 
 #[test]
 fn children_are_started_with_their_environment(rt: HostRuntime) -> Result<(), Fail> {
-    let alloc = rt.alloc();
-    for case in CASES.as_slice() {
-        let said = other(alloc, case)?;
-        assert_eq!(rt; said.as_str(), "");
-    }
+    let said = first_other(rt.alloc())?;
+    assert_eq!(rt; said.as_str(), "");
     Ok(())
 }

@@ -120,67 +120,80 @@ fn secs_of(event: &Event, clock: Option<u64>) -> Option<u64> {
     }
 }
 
-fn filled(alloc: Global, front: &str, byte: u8, count: usize) -> Result<Bytes, NoMemory> {
-    let mut bytes = Bytes::from_slice(alloc, front.as_bytes())?;
+fn push_fill(bytes: &mut Bytes, byte: u8, count: usize) -> Result<(), NoMemory> {
     for _ in 0..count {
         bytes.push(byte)?;
     }
+    Ok(())
+}
+
+// A front, and so many bytes of one kind behind it.
+fn filled(alloc: Global, front: &str, byte: u8, count: usize) -> Result<Bytes, NoMemory> {
+    let mut bytes = Bytes::from_slice(alloc, front.as_bytes())?;
+    push_fill(&mut bytes, byte, count)?;
     Ok(bytes)
 }
 
-fn client_event(alloc: Global, heard: Heard) -> Result<Event, NoMemory> {
-    Ok(match heard {
-        Accept => Event::Accepted {
-            peer: Peer(Text::copy_of(alloc, "192.0.2.1")?),
-        },
-        Client(text) => Event::ClientBytes {
-            c: 0,
-            bytes: Bytes::from_slice(alloc, text.as_bytes())?,
-        },
-        Fill(byte, count) => Event::ClientBytes {
-            c: 0,
-            bytes: filled(alloc, "", byte, count)?,
-        },
+fn accepted(alloc: Global) -> Result<Event, NoMemory> {
+    let text = Text::copy_of(alloc, "192.0.2.1")?;
+    Ok(Event::Accepted { peer: Peer(text) })
+}
+
+fn client_bytes(alloc: Global, front: &str, byte: u8, count: usize) -> Result<Event, NoMemory> {
+    let bytes = filled(alloc, front, byte, count)?;
+    Ok(Event::ClientBytes { c: 0, bytes })
+}
+
+fn child_bytes(alloc: Global, k: u64, front: &str, count: usize) -> Result<Event, NoMemory> {
+    let bytes = filled(alloc, front, b'a', count)?;
+    Ok(Event::ChildBytes { k, bytes })
+}
+
+fn message(alloc: Global, front: &str, count: usize) -> Result<Event, NoMemory> {
+    let bytes = filled(alloc, front, b'a', count)?;
+    Ok(Event::WsText { c: 0, bytes })
+}
+
+fn event_of(alloc: Global, heard: Heard) -> Result<Event, NoMemory> {
+    match heard {
+        Accept => accepted(alloc),
+        Client(text) => client_bytes(alloc, text, b'a', 0),
+        Fill(byte, count) => client_bytes(alloc, "", byte, count),
+        Out(k, text) => child_bytes(alloc, k, text, 0),
+        OutFill(k, front, count) => child_bytes(alloc, k, front, count),
+        Message(text) => message(alloc, text, 0),
+        MessageFill(count) => message(alloc, "", count),
+        _ => Ok(client_event(heard)),
+    }
+}
+
+// An event of the client that brings nothing, or of all.
+fn client_event(heard: Heard) -> Event {
+    match heard {
         End => Event::ClientEof { c: 0 },
         Gone => Event::ClientGone { c: 0 },
         Wrote(n) => Event::Wrote { c: 0, n },
-        Message(text) => Event::WsText {
-            c: 0,
-            bytes: Bytes::from_slice(alloc, text.as_bytes())?,
-        },
-        MessageFill(count) => Event::WsText {
-            c: 0,
-            bytes: filled(alloc, "", b'a', count)?,
-        },
         Binary => Event::WsBinary { c: 0 },
         Closed => Event::WsClosed { c: 0 },
         Refused => Event::WsBad { c: 0 },
         NoRoom => Event::NoRoom { c: 0 },
         Tick(secs) => Event::Tick { secs },
-        _ => Event::Stop,
-    })
+        _ => child_event(heard),
+    }
 }
 
-fn child_event(alloc: Global, heard: Heard) -> Result<Option<Event>, NoMemory> {
-    Ok(match heard {
-        Started(k) => Some(Event::Started { k }),
-        StartFailed(k) => Some(Event::StartFailed { k }),
-        StartFull(k, seen) => Some(Event::StartFull { k, seen }),
-        Out(k, text) => Some(Event::ChildBytes {
-            k,
-            bytes: Bytes::from_slice(alloc, text.as_bytes())?,
-        }),
-        OutFill(k, front, count) => Some(Event::ChildBytes {
-            k,
-            bytes: filled(alloc, front, b'a', count)?,
-        }),
-        OutEnd(k) => Some(Event::ChildEof { k }),
-        OutBroken(k) => Some(Event::ChildBroken { k }),
-        Took(k, n) => Some(Event::Took { k, n }),
-        InGone(k) => Some(Event::InputGone { k }),
-        Exited(k) => Some(Event::Exited { k }),
-        _ => None,
-    })
+fn child_event(heard: Heard) -> Event {
+    match heard {
+        Started(k) => Event::Started { k },
+        StartFailed(k) => Event::StartFailed { k },
+        StartFull(k, seen) => Event::StartFull { k, seen },
+        OutEnd(k) => Event::ChildEof { k },
+        OutBroken(k) => Event::ChildBroken { k },
+        Took(k, n) => Event::Took { k, n },
+        InGone(k) => Event::InputGone { k },
+        Exited(k) => Event::Exited { k },
+        _ => Event::Stop,
+    }
 }
 
 impl Script {
@@ -207,10 +220,10 @@ impl Script {
     fn hear_bytes(&mut self, child: Option<u64>, text: &str) -> Result<(), NoMemory> {
         for byte in text.as_bytes() {
             let bytes = Bytes::from_slice(self.alloc, &[*byte])?;
-            match child {
-                None => self.add(Event::ClientBytes { c: 0, bytes })?,
-                Some(k) => self.add(Event::ChildBytes { k, bytes })?,
-            }
+            self.add(match child {
+                None => Event::ClientBytes { c: 0, bytes },
+                Some(k) => Event::ChildBytes { k, bytes },
+            })?;
         }
         Ok(())
     }
@@ -224,6 +237,13 @@ impl Script {
         }
     }
 
+    pub fn hear_all(&mut self, all: &[Heard]) -> Result<(), NoMemory> {
+        for heard in all {
+            self.hear(*heard)?;
+        }
+        Ok(())
+    }
+
     fn hear_ticks(&mut self, count: u32) -> Result<(), NoMemory> {
         for _ in 0..count {
             self.add(Event::Tick { secs: 0 })?;
@@ -232,10 +252,7 @@ impl Script {
     }
 
     fn hear_whole(&mut self, heard: Heard) -> Result<(), NoMemory> {
-        let event = match child_event(self.alloc, heard)? {
-            Some(event) => event,
-            None => client_event(self.alloc, heard)?,
-        };
+        let event = event_of(self.alloc, heard)?;
         self.add(event)
     }
 
@@ -295,28 +312,45 @@ pub fn record(
     Ok(drive(alloc, site, script, refused))
 }
 
-// The acts that are due, beat by beat. What names no event is not to be heard.
-fn due(alloc: Global, row: Row) -> Result<String, NoMemory> {
-    let mut text = String::new(alloc);
+fn push_act(alloc: Global, text: &mut String, table: &str, act: &str) -> Result<(), NoMemory> {
+    let act = bytes_of(alloc, table, act)?;
+    push_line(text, str::from_utf8(act.as_slice()).unwrap_or("no text"))
+}
+
+// Whether a line names an event.
+fn names_event(alloc: Global, table: &str, line: &str) -> Result<bool, NoMemory> {
+    let words = words_of(alloc, table, line)?;
+    Ok(heard_of(&words).is_some())
+}
+
+// What names no event is not to be heard.
+fn push_beat(alloc: Global, text: &mut String, table: &str, line: &str) -> Result<(), NoMemory> {
+    if names_event(alloc, table, line)? {
+        return Ok(());
+    }
+    push_line(text, "no event")
+}
+
+fn push_due(alloc: Global, text: &mut String, row: Row) -> Result<(), NoMemory> {
     let mut begun = false;
     for line in row.beats.lines() {
         if let Some(act) = line.strip_prefix("    ") {
-            let act = bytes_of(alloc, row.table, act)?;
-            push_line(
-                &mut text,
-                str::from_utf8(act.as_slice()).unwrap_or("no text"),
-            )?;
+            push_act(alloc, text, row.table, act)?;
         } else if is_event(line) {
             if begun {
-                text.push_str("--\n")?;
+                push_line(text, "--")?;
             }
             begun = true;
-            if heard_of(&words_of(alloc, row.table, line)?).is_none() {
-                text.push_str("no event\n")?;
-            }
+            push_beat(alloc, text, row.table, line)?;
         }
     }
-    text.push_str("--\n")?;
+    push_line(text, "--")
+}
+
+// The acts that are due, beat by beat.
+fn due(alloc: Global, row: Row) -> Result<String, NoMemory> {
+    let mut text = String::new(alloc);
+    push_due(alloc, &mut text, row)?;
     Ok(text)
 }
 

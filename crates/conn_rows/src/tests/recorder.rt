@@ -1,7 +1,7 @@
 // An outside that writes down what it is asked for, and tells no trace.
 ghost use Rattle.std.specs.Prelude.{None};
 
-use host_base::{Bytes, Launch, NoMemory};
+use host_base::{Bytes, Launch, NoMemory, Texts};
 use host_trace::{Act, Acted, Event, Outside, Why};
 use std::alloc::Global;
 
@@ -37,11 +37,6 @@ pub fn why_text(why: Why) -> &'static str {
     }
 }
 
-fn bytes_text(alloc: Global, bytes: &Bytes) -> Result<String, NoMemory> {
-    let text = String::from_utf8_lossy(alloc, bytes.as_slice())?;
-    Ok(String::from_str(alloc, text.as_str())?)
-}
-
 pub fn push_line(text: &mut String, line: &str) -> Result<(), NoMemory> {
     text.push_str(line)?;
     text.push('\n')?;
@@ -63,8 +58,14 @@ impl Recorder {
         }
     }
 
-    fn line(&mut self, text: String) -> Result<(), NoMemory> {
-        push_line(&mut self.log, text.as_str())
+    fn line(&mut self, line: &str) -> Result<(), NoMemory> {
+        push_line(&mut self.log, line)
+    }
+
+    // An act and its number.
+    fn numbered(&mut self, act: &str, k: u64) -> Result<(), NoMemory> {
+        let line = format!(in self.alloc; "{act} {k}")?;
+        self.line(line.as_str())
     }
 
     fn launch(&mut self, launch: &Launch) -> Result<(), NoMemory> {
@@ -73,6 +74,10 @@ impl Recorder {
         for arg in launch.args.as_slice() {
             push_line(&mut self.launched, arg.as_str())?;
         }
+        self.variables(launch)
+    }
+
+    fn variables(&mut self, launch: &Launch) -> Result<(), NoMemory> {
         for pair in launch.env.as_slice() {
             self.launched.push_str(pair.name.as_str())?;
             self.launched.push('=')?;
@@ -95,15 +100,10 @@ impl Recorder {
     }
 
     fn note(&mut self, act: &Act) -> Result<(), NoMemory> {
-        let alloc = self.alloc;
         match act {
-            Act::WantClient { .. } => self.line(format!(in alloc; "WantClient")?),
-            Act::Write { bytes, .. } => {
-                self.wrote.extend_from_slice(bytes.as_slice())?;
-                let text = bytes_text(alloc, bytes)?;
-                self.line(format!(in alloc; "Write {}", text.as_str())?)
-            }
-            Act::Shut { why, .. } => self.line(format!(in alloc; "Shut {}", why_text(*why))?),
+            Act::WantClient { .. } => self.line("WantClient"),
+            Act::Write { bytes, .. } => self.write(bytes),
+            Act::Shut { why, .. } => self.shut(why_text(*why)),
             Act::Start {
                 k,
                 j,
@@ -112,47 +112,65 @@ impl Recorder {
                 ..
             } => {
                 self.launch(launch)?;
-                self.line(format!(in alloc;
-                    "Start {} {} {} {}",
-                    *k,
-                    *j,
-                    *hop,
-                    launch.program.as_str()
-                )?)
+                self.start(*k, *j, *hop, launch.program.as_str())
             }
-            Act::Feed { k, bytes } => {
-                self.fed.extend_from_slice(bytes.as_slice())?;
-                self.line(format!(in alloc; "Feed {} {}", *k, bytes.len())?)
-            }
-            Act::EndInput { k } => self.line(format!(in alloc; "EndInput {}", *k)?),
-            Act::WantChild { k } => self.line(format!(in alloc; "WantChild {}", *k)?),
-            Act::Kill { k } => self.line(format!(in alloc; "Kill {}", *k)?),
-            Act::Release { k } => self.line(format!(in alloc; "Release {}", *k)?),
+            Act::Feed { k, bytes } => self.feed(*k, bytes.as_slice()),
+            Act::EndInput { k } => self.numbered("EndInput", *k),
+            Act::WantChild { k } => self.numbered("WantChild", *k),
+            Act::Kill { k } => self.numbered("Kill", *k),
+            Act::Release { k } => self.numbered("Release", *k),
             _ => self.note_talk(act),
         }
     }
 
+    fn write(&mut self, bytes: &Bytes) -> Result<(), NoMemory> {
+        self.wrote.extend_from_slice(bytes.as_slice())?;
+        self.log.push_str("Write ")?;
+        let text = String::from_utf8_lossy(self.alloc, bytes.as_slice())?;
+        self.line(text.as_str())
+    }
+
+    fn shut(&mut self, why: &str) -> Result<(), NoMemory> {
+        self.log.push_str("Shut ")?;
+        self.line(why)
+    }
+
+    fn start(&mut self, k: u64, j: u128, hop: u32, program: &str) -> Result<(), NoMemory> {
+        let line = format!(in self.alloc; "Start {k} {j} {hop} {program}")?;
+        self.line(line.as_str())
+    }
+
+    fn feed(&mut self, k: u64, bytes: &[u8]) -> Result<(), NoMemory> {
+        self.fed.extend_from_slice(bytes)?;
+        let line = format!(in self.alloc; "Feed {k} {}", bytes.len())?;
+        self.line(line.as_str())
+    }
+
     // An act of a WebSocket.
     fn note_talk(&mut self, act: &Act) -> Result<(), NoMemory> {
-        let alloc = self.alloc;
         match act {
-            Act::Upgrade { rest, .. } => {
-                let text = bytes_text(alloc, rest)?;
-                self.line(format!(in alloc; "Upgrade <{}>", text.as_str())?)
-            }
-            Act::Says { texts, .. } => {
-                let mut line = String::from_str(alloc, "Says")?;
-                for text in texts.as_slice() {
-                    push_line(&mut self.said, text.as_str())?;
-                    line.push_str(" <")?;
-                    line.push_str(text.as_str())?;
-                    line.push('>')?;
-                }
-                self.line(line)
-            }
-            Act::CloseWs { code, .. } => self.line(format!(in alloc; "CloseWs {}", *code)?),
+            Act::Upgrade { rest, .. } => self.upgrade(rest),
+            Act::Says { texts, .. } => self.say(texts),
+            Act::CloseWs { code, .. } => self.numbered("CloseWs", u64::from(*code)),
             _ => Ok(()),
         }
+    }
+
+    fn upgrade(&mut self, rest: &Bytes) -> Result<(), NoMemory> {
+        let text = String::from_utf8_lossy(self.alloc, rest.as_slice())?;
+        let line = format!(in self.alloc; "Upgrade <{}>", text.as_str())?;
+        self.line(line.as_str())
+    }
+
+    fn say(&mut self, texts: &Texts) -> Result<(), NoMemory> {
+        self.log.push_str("Says")?;
+        for text in texts.as_slice() {
+            push_line(&mut self.said, text.as_str())?;
+            self.log.push_str(" <")?;
+            self.log.push_str(text.as_str())?;
+            self.log.push('>')?;
+        }
+        self.line("")
     }
 }
 

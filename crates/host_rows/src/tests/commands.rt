@@ -1,11 +1,11 @@
 // The commands that need no loop: their words, their statuses and what they report.
-use super::drive::words_of;
+use super::drive::runs_over;
+use super::lines::shown;
 use host_base::{Bytes, NoMemory, Text};
-use host_run::{Status, run};
+use host_run::Status;
 use memory_world::{MemorySink, MemoryStore, MemoryWorld, StoredFile};
 use site_file::{SiteFault, read_site};
 use std::alloc::Global;
-use std::process::Abort;
 use std::test::Fail;
 use std::thread::Threads;
 
@@ -53,18 +53,10 @@ fn came_of<R: Threads + Sync>(
     words: &[&str],
     failing: &[u64],
 ) -> Result<Came, NoMemory> {
-    let words = words_of(alloc, words)?;
     let mut store = store(alloc)?;
     let mut report = MemorySink::new(alloc, Vec::from_slice(alloc, failing)?);
     let mut world = MemoryWorld::new(alloc, Vec::new(alloc));
-    let status = run(
-        rt,
-        alloc,
-        words.as_slice(),
-        &mut store,
-        &mut report,
-        &mut world,
-    );
+    let status = runs_over(rt, alloc, words, &mut store, &mut report, &mut world)?;
     Ok(Came {
         status,
         report,
@@ -72,52 +64,63 @@ fn came_of<R: Threads + Sync>(
     })
 }
 
-fn reports<R: Threads + Abort + Sync>(
+// Whether these words are done and report this.
+fn reports<R: Threads + Sync>(
     rt: &R,
     alloc: Global,
     words: &[&str],
     text: &[u8],
-) -> Result<(), Fail> {
+) -> Result<bool, NoMemory> {
     let came = came_of(rt, alloc, words, &[])?;
-    assert!(rt; matches!(came.status, Status::Done), "{words:?}");
-    assert_eq!(rt; came.report.written(), text, "{words:?}");
-    assert_eq!(rt; came.store.faults(), 0);
-    Ok(())
+    Ok(
+        matches!(came.status, Status::Done)
+            && came.report.written() == text
+            && came.store.faults() == 0,
+    )
 }
 
 #[test]
 fn sites_that_are_checked(rt: HostRuntime) -> Result<(), Fail> {
-    let alloc = rt.alloc();
-    reports(&rt, alloc, &["check", "two"], b"ok: 2 scripts\n")?;
-    reports(&rt, alloc, &["check", "hosts"], b"ok: 3 scripts\n")?;
-    reports(&rt, alloc, &["check", "/s=/bin/cat"], b"ok: 1 scripts\n")?;
-    reports(&rt, alloc, &["--version"], b"cgihost 1\n")?;
+    let table: [(&[&str], &[u8]); 4] = [
+        (&["check", "two"], b"ok: 2 scripts\n"),
+        (&["check", "hosts"], b"ok: 3 scripts\n"),
+        (&["check", "/s=/bin/cat"], b"ok: 1 scripts\n"),
+        (&["--version"], b"cgihost 1\n"),
+    ];
+    for (words, text) in table {
+        assert!(rt; reports(&rt, rt.alloc(), words, text)?, "{words:?}");
+    }
     Ok(())
 }
 
-fn refuses<R: Threads + Abort + Sync>(
+// Whether a status says this: `not TOML`, `missing` and a key, or `unread`.
+fn says(status: &Status, wanted: &str) -> bool {
+    match status {
+        Status::SiteRefused(SiteFault::NotToml) => wanted == "not TOML",
+        Status::SiteRefused(SiteFault::Missing(key)) => match wanted.strip_prefix("missing ") {
+            Some(wanted) => key.as_str() == wanted,
+            None => false,
+        },
+        Status::SiteUnread => wanted == "unread",
+        _ => false,
+    }
+}
+
+// Whether a task with this site ends so and reports nothing.
+fn refuses<R: Threads + Sync>(
     rt: &R,
     alloc: Global,
+    task: &str,
     name: &str,
     wanted: &str,
-) -> Result<(), Fail> {
-    for task in ["check", "upgrade"] {
-        let came = came_of(rt, alloc, &[task, name], &[])?;
-        let said = match &came.status {
-            Status::SiteRefused(SiteFault::NotToml) => format!(in alloc; "not TOML")?,
-            Status::SiteRefused(SiteFault::Missing(key)) => format!(in alloc;
-                "missing {}",
-                key.as_str()
-            )?,
-            Status::SiteUnread => format!(in alloc; "unread")?,
-            _ => String::new(alloc),
-        };
-        assert_eq!(rt; said.as_str(), wanted, "{task} {name}");
-        assert_eq!(rt; came.report.written().len(), 0);
-        let unread: u64 = if wanted == "unread" { 1 } else { 0 };
-        assert_eq!(rt; came.store.faults(), unread);
-    }
-    Ok(())
+) -> Result<bool, NoMemory> {
+    let came = came_of(rt, alloc, &[task, name], &[])?;
+    let unread: u64 = if wanted == "unread" { 1 } else { 0 };
+    Ok(
+        says(&came.status, wanted)
+            && came.report.written().is_empty()
+            && came.store.faults() == unread,
+    )
 }
 
 #[test]
@@ -130,60 +133,82 @@ fn sites_that_are_refused(rt: HostRuntime) -> Result<(), Fail> {
         ("lost", "unread"),
         ("none", "unread"),
     ] {
-        refuses(&rt, alloc, name, wanted)?;
+        for task in ["check", "upgrade"] {
+            let refused = refuses(&rt, alloc, task, name, wanted)?;
+            assert!(rt; refused, "{task} {name}");
+        }
     }
     Ok(())
+}
+
+// Whether the first put of these words fails, once it has put so many bytes.
+fn fails<R: Threads + Sync>(
+    rt: &R,
+    alloc: Global,
+    words: &[&str],
+    len: usize,
+) -> Result<bool, NoMemory> {
+    let came = came_of(rt, alloc, words, &[0])?;
+    Ok(
+        matches!(came.status, Status::ReportFault)
+            && came.report.written().len() == len
+            && came.report.faults() == 1,
+    )
 }
 
 // A report that is cut off by a fault, of which half was put.
 #[test]
 fn reports_that_fail(rt: HostRuntime) -> Result<(), Fail> {
-    let alloc = rt.alloc();
     for (words, len) in [
         (["check", "two"].as_slice(), 7),
         (&["--version"], 5),
         (&["sample", "0", "1"], 25),
     ] {
-        let came = came_of(&rt, alloc, words, &[0])?;
-        assert!(&rt; matches!(came.status, Status::ReportFault), "{words:?}");
-        assert_eq!(&rt; came.report.written().len(), len);
-        assert_eq!(&rt; came.report.faults(), 1);
+        assert!(rt; fails(&rt, rt.alloc(), words, len)?, "{words:?}");
     }
     Ok(())
+}
+
+// Whether a text is read as a site whose first host has so many scripts.
+fn has_scripts(alloc: Global, text: &str, count: usize) -> bool {
+    match read_site(alloc, text.as_bytes()) {
+        Ok(site) => site.hosts.as_slice()[0].scripts.len() == count,
+        Err(_) => false,
+    }
+}
+
+fn has_version_2(text: &str) -> bool {
+    text.starts_with("version = 2\n") || text.contains("\nversion = 2\n")
+}
+
+// Whether a site is written in version 2, with so many scripts of its first host.
+fn is_upgraded<R: Threads + Sync>(
+    rt: &R,
+    alloc: Global,
+    name: &str,
+    scripts: usize,
+) -> Result<bool, NoMemory> {
+    let came = came_of(rt, alloc, &["upgrade", name], &[])?;
+    let text = shown(came.report.written());
+    Ok(
+        matches!(came.status, Status::Done)
+            && has_version_2(text)
+            && has_scripts(alloc, text, scripts),
+    )
 }
 
 // What is written for a site says it in version 2, and is written for it again.
 #[test]
 fn sites_that_are_upgraded(rt: HostRuntime) -> Result<(), Fail> {
-    let alloc = rt.alloc();
-    for name in ["two", "hosts", "/s=/bin/cat"] {
-        let came = came_of(&rt, alloc, &["upgrade", name], &[])?;
-        assert!(&rt; matches!(came.status, Status::Done), "{name}");
-        let site = match read_site(alloc, came.report.written()) {
-            Ok(site) => site,
-            Err(fault) => panic!(&rt; "{name}: {fault:?}"),
-        };
-        let scripts = site.hosts.as_slice()[0].scripts.len();
-        assert_eq!(&rt;
-            scripts,
-            if name == "/s=/bin/cat" { 1 } else { 2 },
-            "{name}"
-        );
-        let text = std::str::from_utf8(came.report.written())?;
-        assert!(&rt;
-            text.starts_with("version = 2\n") || text.contains("\nversion = 2\n"),
-            "{text}"
-        );
+    for (name, scripts) in [("two", 2), ("hosts", 2), ("/s=/bin/cat", 1)] {
+        let upgraded = is_upgraded(&rt, rt.alloc(), name, scripts)?;
+        assert!(rt; upgraded, "{name}");
     }
     Ok(())
 }
 
-#[test]
-fn the_help_names_what_there_is(rt: HostRuntime) -> Result<(), Fail> {
-    let alloc = rt.alloc();
-    let came = came_of(&rt, alloc, &["--help"], &[])?;
-    assert!(&rt; matches!(came.status, Status::Done));
-    let text = std::str::from_utf8(came.report.written())?;
+// The first form that the help doesn't name; nothing where it names all.
+fn unnamed(help: &str) -> &'static str {
     for form in [
         "once SITE",
         "serve SITE",
@@ -195,22 +220,48 @@ fn the_help_names_what_there_is(rt: HostRuntime) -> Result<(), Fail> {
         "--version",
         "  7  ",
     ] {
-        assert!(&rt; text.contains(form), "{form}");
+        if !help.contains(form) {
+            return form;
+        }
     }
+    ""
+}
+
+#[test]
+fn the_help_names_what_there_is(rt: HostRuntime) -> Result<(), Fail> {
+    let came = came_of(&rt, rt.alloc(), &["--help"], &[])?;
+    assert!(rt; matches!(came.status, Status::Done));
+    assert_eq!(rt; unnamed(shown(came.report.written())), "");
     Ok(())
 }
 
 // The world, which can't be entered, is not asked for.
 #[test]
 fn samples_that_are_reported(rt: HostRuntime) -> Result<(), Fail> {
-    let alloc = rt.alloc();
-    let six = b"connections 6\nnone 1\nstatus 404 2\nstatus 502 3\nstarts 4\nreaps 4\n";
-    reports(&rt, alloc, &["sample", "1", "6"], six)?;
-    let one = b"connections 1\nnone 0\nstatus 502 1\nstarts 1\nreaps 0\n";
-    reports(&rt, alloc, &["sample", "0", "1"], one)?;
-    let nine =
-        b"connections 9\nnone 0\nstatus 200 4\nstatus 404 1\nstatus 502 4\nstarts 8\nreaps 5\n";
-    reports(&rt, alloc, &["sample", "4294967295", "9"], nine)
+    let table: [(&[&str], &[u8]); 3] = [
+        (
+            &["sample", "1", "6"],
+            b"connections 6\nnone 1\nstatus 404 2\nstatus 502 3\nstarts 4\nreaps 4\n",
+        ),
+        (
+            &["sample", "0", "1"],
+            b"connections 1\nnone 0\nstatus 502 1\nstarts 1\nreaps 0\n",
+        ),
+        (
+            &["sample", "4294967295", "9"],
+            b"connections 9\nnone 0\nstatus 200 4\nstatus 404 1\nstatus 502 4\nstarts 8\nreaps 5\n",
+        ),
+    ];
+    for (words, text) in table {
+        assert!(rt; reports(&rt, rt.alloc(), words, text)?, "{words:?}");
+    }
+    Ok(())
+}
+
+// Whether these words are none of a command, and nothing is reported.
+fn is_refused<R: Threads + Sync>(rt: &R, alloc: Global, words: &[&str]) -> Result<bool, NoMemory> {
+    let came = came_of(rt, alloc, words, &[])?;
+    Ok(matches!(came.status, Status::Usage) && came.report.written().is_empty())
 }
 
 #[test]
@@ -227,9 +278,7 @@ fn words_of_no_sample(rt: HostRuntime) -> Result<(), Fail> {
         &["sample", "1", "1", "1"],
         &["samples", "1", "1"],
     ] {
-        let came = came_of(&rt, rt.alloc(), words, &[])?;
-        assert!(&rt; matches!(came.status, Status::Usage), "{words:?}");
-        assert_eq!(&rt; came.report.written().len(), 0);
+        assert!(rt; is_refused(&rt, rt.alloc(), words)?, "{words:?}");
     }
     Ok(())
 }

@@ -55,27 +55,47 @@ fn filled(alloc: Global, count: usize) -> Result<Bytes, NoMemory> {
     Ok(Bytes::from_vec(vec![in alloc; b'x'; count]?))
 }
 
-fn client_event(alloc: Global, heard: Heard) -> Result<Event, NoMemory> {
-    Ok(match heard {
-        Heard::Accepted => Event::Accepted {
-            peer: Peer(Text::copy_of(alloc, "192.0.2.1")?),
-        },
-        Heard::Client(c, bytes) => Event::ClientBytes {
-            c,
-            bytes: Bytes::from_slice(alloc, bytes)?,
-        },
-        Heard::ClientFill(c, count) => Event::ClientBytes {
-            c,
-            bytes: filled(alloc, count)?,
-        },
-        Heard::WsText(c, bytes) => Event::WsText {
-            c,
-            bytes: Bytes::from_slice(alloc, bytes)?,
-        },
-        Heard::WsFill(c, count) => Event::WsText {
-            c,
-            bytes: filled(alloc, count)?,
-        },
+// The bytes that are brought; none where nothing is.
+fn brought(alloc: Global, heard: Heard) -> Result<Option<Bytes>, NoMemory> {
+    match heard {
+        Heard::Client(_, bytes) | Heard::Output(_, bytes) | Heard::WsText(_, bytes) => {
+            Ok(Some(Bytes::from_slice(alloc, bytes)?))
+        }
+        Heard::ClientFill(_, count) | Heard::OutputFill(_, count) | Heard::WsFill(_, count) => {
+            Ok(Some(filled(alloc, count)?))
+        }
+        _ => Ok(None),
+    }
+}
+
+// The event that brings these bytes.
+fn event_with(heard: Heard, bytes: Bytes) -> Event {
+    match heard {
+        Heard::Client(c, _) | Heard::ClientFill(c, _) => Event::ClientBytes { c, bytes },
+        Heard::Output(k, _) | Heard::OutputFill(k, _) => Event::ChildBytes { k, bytes },
+        Heard::WsText(c, _) | Heard::WsFill(c, _) => Event::WsText { c, bytes },
+        _ => Event::Stop,
+    }
+}
+
+// Any other event of a child.
+fn child_event(heard: Heard) -> Option<Event> {
+    match heard {
+        Heard::Started(k) => Some(Event::Started { k }),
+        Heard::StartFailed(k) => Some(Event::StartFailed { k }),
+        Heard::StartFull(k, seen) => Some(Event::StartFull { k, seen }),
+        Heard::OutputEof(k) => Some(Event::ChildEof { k }),
+        Heard::Broken(k) => Some(Event::ChildBroken { k }),
+        Heard::Took(k, n) => Some(Event::Took { k, n }),
+        Heard::InputGone(k) => Some(Event::InputGone { k }),
+        Heard::Exited(k) => Some(Event::Exited { k }),
+        _ => None,
+    }
+}
+
+// Any other event, where a client hasn't just come.
+fn client_event(heard: Heard) -> Event {
+    match heard {
         Heard::ClientEof(c) => Event::ClientEof { c },
         Heard::Gone(c) => Event::ClientGone { c },
         Heard::NoRoom(c) => Event::NoRoom { c },
@@ -86,36 +106,24 @@ fn client_event(alloc: Global, heard: Heard) -> Result<Event, NoMemory> {
         Heard::TickAt(secs) => Event::Tick { secs },
         Heard::Ticks(_) => Event::Tick { secs: 784_111_777 },
         _ => Event::Stop,
-    })
+    }
 }
 
-fn child_event(alloc: Global, heard: Heard) -> Result<Option<Event>, NoMemory> {
-    Ok(Some(match heard {
-        Heard::Started(k) => Event::Started { k },
-        Heard::StartFailed(k) => Event::StartFailed { k },
-        Heard::StartFull(k, seen) => Event::StartFull { k, seen },
-        Heard::Output(k, bytes) => Event::ChildBytes {
-            k,
-            bytes: Bytes::from_slice(alloc, bytes)?,
-        },
-        Heard::OutputFill(k, count) => Event::ChildBytes {
-            k,
-            bytes: filled(alloc, count)?,
-        },
-        Heard::OutputEof(k) => Event::ChildEof { k },
-        Heard::Broken(k) => Event::ChildBroken { k },
-        Heard::Took(k, n) => Event::Took { k, n },
-        Heard::InputGone(k) => Event::InputGone { k },
-        Heard::Exited(k) => Event::Exited { k },
-        _ => return Ok(None),
-    }))
+// The event where no bytes are brought.
+fn bare_event(alloc: Global, heard: Heard) -> Result<Event, NoMemory> {
+    match heard {
+        Heard::Accepted => Ok(Event::Accepted {
+            peer: Peer(Text::copy_of(alloc, "192.0.2.1")?),
+        }),
+        _ => Ok(child_event(heard).unwrap_or(client_event(heard))),
+    }
 }
 
 /// The event.
 pub fn event_of(alloc: Global, heard: Heard) -> Result<Event, NoMemory> {
-    match child_event(alloc, heard)? {
-        Some(event) => Ok(event),
-        None => client_event(alloc, heard),
+    match brought(alloc, heard)? {
+        Some(bytes) => Ok(event_with(heard, bytes)),
+        None => bare_event(alloc, heard),
     }
 }
 
@@ -269,12 +277,25 @@ pub fn world_of(alloc: Global, heard: &[Heard]) -> Result<MemoryWorld, NoMemory>
     world_with(alloc, events, Vec::new(alloc), room, 64)
 }
 
-pub fn words_of(alloc: Global, words: &[&str]) -> Result<Vec<String>, NoMemory> {
+fn words_of(alloc: Global, words: &[&str]) -> Result<Vec<String>, NoMemory> {
     let mut all = Vec::new(alloc);
     for word in words {
         all.push(word.to_string(alloc)?)?;
     }
     Ok(all)
+}
+
+/// Runs these words over a store, a report and a world.
+pub fn runs_over<R: Threads + Sync>(
+    rt: &R,
+    alloc: Global,
+    words: &[&str],
+    store: &mut MemoryStore,
+    report: &mut MemorySink,
+    world: &mut MemoryWorld,
+) -> Result<Status, NoMemory> {
+    let words = words_of(alloc, words)?;
+    Ok(run(rt, alloc, words.as_slice(), store, report, world))
 }
 
 /// Runs these words over a world.
@@ -284,8 +305,7 @@ pub fn runs<R: Threads + Sync>(
     words: &[&str],
     world: &mut MemoryWorld,
 ) -> Result<Status, NoMemory> {
-    let words = words_of(alloc, words)?;
     let mut store = store(alloc)?;
     let mut report = MemorySink::new(alloc, Vec::new(alloc));
-    Ok(run(rt, alloc, words.as_slice(), &mut store, &mut report, world))
+    runs_over(rt, alloc, words, &mut store, &mut report, world)
 }

@@ -1,14 +1,15 @@
 // What `explain` reports of requests over memory.
-use super::drive::{Heard, words_of, world_of};
+use super::drive::{Heard, runs_over, world_of};
 use super::lines::{shown, told};
 use super::texts::REQUEST;
 use host_base::NoMemory;
-use host_run::{Status, run};
+use host_run::Status;
 use memory_world::{MemorySink, MemoryStore, MemoryWorld};
 use std::alloc::Global;
-use std::process::Abort;
 use std::test::Fail;
 use std::thread::Threads;
+
+const WORDS: [&str; 2] = ["explain", "/cgi-bin/hello=/srv/cgi/hello"];
 
 // What came of a command: its status, its report and its world.
 #[derive(Drop)]
@@ -25,18 +26,10 @@ fn came_of<R: Threads + Sync>(
     heard: &[Heard],
     failing: &[u64],
 ) -> Result<Came, NoMemory> {
-    let words = words_of(alloc, &["explain", "/cgi-bin/hello=/srv/cgi/hello"])?;
     let mut store = MemoryStore::new(Vec::new(alloc), Vec::new(alloc));
     let mut report = MemorySink::new(alloc, Vec::from_slice(alloc, failing)?);
     let mut world = world_of(alloc, heard)?;
-    let status = run(
-        rt,
-        alloc,
-        words.as_slice(),
-        &mut store,
-        &mut report,
-        &mut world,
-    );
+    let status = runs_over(rt, alloc, &WORDS, &mut store, &mut report, &mut world)?;
     Ok(Came {
         status,
         report,
@@ -44,18 +37,25 @@ fn came_of<R: Threads + Sync>(
     })
 }
 
-// This is reported of what is heard after the client connected.
-fn explains<R: Threads + Abort + Sync>(
+// Whether this is reported, and one trace is given back.
+fn reports(came: &Came, text: &str) -> bool {
+    shown(came.report.written()) == text && came.world.given().len() == 1
+}
+
+// .. and all is done.
+fn is_explained(came: &Came, text: &str) -> bool {
+    matches!(came.status, Status::Done) && reports(came, text)
+}
+
+// Whether this is reported of what is heard.
+fn explains<R: Threads + Sync>(
     rt: &R,
     alloc: Global,
     heard: &[Heard],
     text: &str,
-) -> Result<(), Fail> {
+) -> Result<bool, NoMemory> {
     let came = came_of(rt, alloc, heard, &[])?;
-    assert!(rt; matches!(came.status, Status::Done), "{text}");
-    assert_eq!(rt; shown(came.report.written()), text);
-    assert_eq!(rt; came.world.given().len(), 1);
-    Ok(())
+    Ok(is_explained(&came, text))
 }
 
 const HELLO: &str = "program /srv/cgi/hello
@@ -76,17 +76,15 @@ env HTTP_HOST=a
 // Nothing is done but to ask, and the trace ends with the request.
 #[test]
 fn a_whole_request(rt: HostRuntime) -> Result<(), Fail> {
-    let alloc = rt.alloc();
     let came = came_of(
         &rt,
-        alloc,
+        rt.alloc(),
         &[Heard::Accepted, Heard::Client(0, REQUEST)],
         &[],
     )?;
-    assert!(&rt; matches!(came.status, Status::Done));
-    assert_eq!(&rt; shown(came.report.written()), HELLO);
-    let trace = told(&rt, alloc, &came.world)?;
-    assert_eq!(&rt;
+    assert!(rt; is_explained(&came, HELLO));
+    let trace = told(rt.alloc(), &came.world)?;
+    assert_eq!(rt;
         trace.as_str(),
         "Accepted 192.0.2.1\n    WantClient 0\nClientBytes 0: 59\n"
     );
@@ -96,7 +94,7 @@ fn a_whole_request(rt: HostRuntime) -> Result<(), Fail> {
 #[test]
 fn a_path_that_goes_on_behind_its_script(rt: HostRuntime) -> Result<(), Fail> {
     let request = b"GET /cgi-bin/hello/a%20b/?x=1 HTTP/1.1\r\nHost: example.com:8080\r\n\r\n";
-    explains(
+    let explained = explains(
         &rt,
         rt.alloc(),
         &[Heard::Accepted, Heard::Client(0, request)],
@@ -116,7 +114,9 @@ env SERVER_PROTOCOL=HTTP/1.1
 env SERVER_SOFTWARE=cgihost/1
 env HTTP_HOST=example.com:8080
 ",
-    )
+    )?;
+    assert!(rt; explained);
+    Ok(())
 }
 
 #[test]
@@ -126,7 +126,9 @@ fn a_request_in_single_bytes(rt: HostRuntime) -> Result<(), Fail> {
     for piece in REQUEST.chunks(1) {
         heard.push(Heard::Client(0, piece))?;
     }
-    explains(&rt, rt.alloc(), heard.as_slice(), HELLO)
+    let explained = explains(&rt, rt.alloc(), heard.as_slice(), HELLO)?;
+    assert!(rt; explained);
+    Ok(())
 }
 
 // The head, the body that it announces, and the script of its target.
@@ -150,12 +152,9 @@ fn requests_that_are_refused(rt: HostRuntime) -> Result<(), Fail> {
     ];
     for (request, cause) in table {
         let text = format!(in rt.alloc(); "refused: {cause}\n")?;
-        explains(
-            &rt,
-            rt.alloc(),
-            &[Heard::Accepted, Heard::Client(0, request)],
-            text.as_str(),
-        )?;
+        let heard = [Heard::Accepted, Heard::Client(0, request)];
+        let explained = explains(&rt, rt.alloc(), &heard, text.as_str())?;
+        assert!(rt; explained, "{cause}");
     }
     Ok(())
 }
@@ -175,20 +174,19 @@ fn requests_that_never_end(rt: HostRuntime) -> Result<(), Fail> {
         (b"GET /x HT", Heard::Stop, "no request\n"),
     ];
     for (begun, end, text) in table {
-        explains(
-            &rt,
-            rt.alloc(),
-            &[Heard::Accepted, Heard::Client(0, begun), end],
-            text,
-        )?;
+        let heard = [Heard::Accepted, Heard::Client(0, begun), end];
+        assert!(rt; explains(&rt, rt.alloc(), &heard, text)?, "{text}");
     }
-    explains(
-        &rt,
-        rt.alloc(),
-        &[Heard::Accepted, Heard::ClientEof(0)],
-        "no request\n",
-    )?;
-    explains(&rt, rt.alloc(), &[], "no request\n")
+    Ok(())
+}
+
+// .. nor one that never began.
+#[test]
+fn no_request(rt: HostRuntime) -> Result<(), Fail> {
+    let ended = [Heard::Accepted, Heard::ClientEof(0)];
+    assert!(rt; explains(&rt, rt.alloc(), &ended, "no request\n")?);
+    assert!(rt; explains(&rt, rt.alloc(), &[], "no request\n")?);
+    Ok(())
 }
 
 // A query of words, a line end in a path, and a tab and a backslash in a field.
@@ -196,7 +194,7 @@ fn requests_that_never_end(rt: HostRuntime) -> Result<(), Fail> {
 fn values_with_bytes_that_a_line_can_not_show(rt: HostRuntime) -> Result<(), Fail> {
     let request =
         b"GET /cgi-bin/hello/%0a?a%0D+b%5C HTTP/1.1\r\nHost: a\r\nX-Y: 1\t\\\r\nx-y: \xe9\r\n\r\n";
-    explains(
+    let explained = explains(
         &rt,
         rt.alloc(),
         &[Heard::Accepted, Heard::Client(0, request)],
@@ -219,7 +217,9 @@ env SERVER_SOFTWARE=cgihost/1
 env HTTP_HOST=a
 env HTTP_X_Y=1\\x09\\x5C, \u{e9}
 ",
-    )
+    )?;
+    assert!(rt; explained);
+    Ok(())
 }
 
 // Half of a report that fails was put.
@@ -231,17 +231,15 @@ fn a_report_that_fails(rt: HostRuntime) -> Result<(), Fail> {
         &[Heard::Accepted, Heard::ClientEof(0)],
         &[0],
     )?;
-    assert!(&rt; matches!(came.status, Status::ReportFault));
-    assert_eq!(&rt; shown(came.report.written()), "no re");
-    assert_eq!(&rt; came.world.given().len(), 1);
+    let fails = matches!(came.status, Status::ReportFault);
+    assert!(rt; fails && reports(&came, "no re"));
     Ok(())
 }
 
 #[test]
 fn a_client_for_whom_there_is_no_memory(rt: HostRuntime) -> Result<(), Fail> {
     let came = came_of(&rt, rt.alloc(), &[Heard::Accepted, Heard::NoRoom(0)], &[])?;
-    assert!(&rt; matches!(came.status, Status::NoMemory));
-    assert_eq!(&rt; came.report.written().len(), 0);
-    assert_eq!(&rt; came.world.given().len(), 1);
+    let fails = matches!(came.status, Status::NoMemory);
+    assert!(rt; fails && reports(&came, ""));
     Ok(())
 }

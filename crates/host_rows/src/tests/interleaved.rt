@@ -339,16 +339,21 @@ fn tell_rest(
     Ok(())
 }
 
-fn interleaved(alloc: Global, seed: u32) -> Result<Play, NoMemory> {
-    let mut play = Play::new(alloc);
+// All stories as a seed says, and Stop.
+fn tell_stories(play: &mut Play, tellers: &mut [Teller], seed: u32) -> Result<(), NoMemory> {
     let mut numbers = Numbers {
         connections: 0,
         children: 0,
     };
+    tell_some(play, &mut numbers, tellers, seed)?;
+    tell_rest(play, &mut numbers, tellers)?;
+    play.beat(Stop, &[])
+}
+
+fn interleaved(alloc: Global, seed: u32) -> Result<Play, NoMemory> {
     let mut tellers = tellers(alloc)?;
-    tell_some(&mut play, &mut numbers, tellers.as_mut_slice(), seed)?;
-    tell_rest(&mut play, &mut numbers, tellers.as_mut_slice())?;
-    play.beat(Stop, &[])?;
+    let mut play = Play::new(alloc);
+    tell_stories(&mut play, tellers.as_mut_slice(), seed)?;
     Ok(play)
 }
 

@@ -1,10 +1,11 @@
 // What children are started with and fed.
 use super::drive::Heard::{Accepted, Client, Exited, Output, OutputEof, Started};
 use super::drive::{Heard, runs, world_of};
-use super::lines::{fed, given, launches_of, shown};
+use super::lines::{fed, given, launches_of};
+use host_base::NoMemory;
 use host_run::Status;
+use host_trace::Item;
 use std::alloc::Global;
-use std::process::Abort;
 use std::test::Fail;
 use std::thread::Threads;
 
@@ -275,21 +276,31 @@ const CASES: [Case; 8] = [
     },
 ];
 
-fn is_right<R: Threads + Abort + Sync>(rt: &R, alloc: Global, case: &Case) -> Result<(), Fail> {
+fn is_launched(alloc: Global, items: &[Item], wanted: &str) -> Result<bool, NoMemory> {
+    let launched = launches_of(alloc, items)?;
+    Ok(launched.as_str() == wanted)
+}
+
+fn is_fed(alloc: Global, items: &[Item], wanted: &str) -> Result<bool, NoMemory> {
+    let fed = fed(alloc, items)?;
+    Ok(fed.as_slice() == wanted.as_bytes())
+}
+
+fn is_right<R: Threads + Sync>(rt: &R, alloc: Global, case: &Case) -> Result<bool, NoMemory> {
     let mut world = world_of(alloc, case.heard)?;
     let status = runs(rt, alloc, &["once", case.site], &mut world)?;
-    assert!(rt; matches!(status, Status::Done));
-    let launched = launches_of(alloc, given(&world))?;
-    assert_eq!(rt; launched.as_str(), case.launched);
-    let fed = fed(alloc, given(&world))?;
-    assert_eq!(rt; shown(fed.as_slice()), case.fed);
-    Ok(())
+    let items = given(&world);
+    Ok(
+        matches!(status, Status::Done)
+            && is_launched(alloc, items, case.launched)?
+            && is_fed(alloc, items, case.fed)?,
+    )
 }
 
 #[test]
 fn children_are_offered_what_the_request_says(rt: HostRuntime) -> Result<(), Fail> {
     for case in &CASES {
-        is_right(&rt, rt.alloc(), case)?;
+        assert!(rt; is_right(&rt, rt.alloc(), case)?, "{}", case.launched);
     }
     Ok(())
 }

@@ -10,6 +10,7 @@ use super::script::size_of;
 use host_base::{NoMemory, Site};
 use host_loop::{LoopEnd, serve_one};
 use host_serve::HostConn;
+use host_trace::Item;
 use memory_world::MemoryOutside;
 use site_file::read_site;
 use std::alloc::Global;
@@ -285,17 +286,20 @@ fn put_in(play: &mut Play, beats: &str, misfit: &str) -> Result<(), NoMemory> {
     play.back(RUNS, beats, size_of(at))
 }
 
-// Serves an outside that hands up all of this.
-fn serves(rt: &impl Abort, site: &Site, name: &str, play: Play) -> Result<(), Fail>
+fn are_lines(alloc: Global, items: &[Item], wanted: &str) -> Result<bool, NoMemory> {
+    let lines = lines_of(alloc, items)?;
+    Ok(lines.as_str() == wanted)
+}
+
+// Whether an outside that hands up all of this is served.
+fn serves(site: &Site, play: Play) -> Result<bool, NoMemory>
     requires { IsServed site.now }
 {
     let (alloc, events, refused, lines) = play.into_parts();
     let mut out = MemoryOutside::wild(alloc, events, refused, site.limits.children)?;
     let end = serve_one::<HostConn<'_>, MemoryOutside>(alloc, site, &mut out, 1 << 32);
-    assert_eq!(rt; end, LoopEnd::Done, "{name}");
-    let told = lines_of(alloc, out.items())?;
-    assert_eq!(rt; told.as_str(), lines.as_str(), "{name}");
-    Ok(())
+    let told = are_lines(alloc, out.items(), lines.as_str())?;
+    Ok(told && end == LoopEnd::Done)
 }
 
 // The lines of a run that are beats.
@@ -309,19 +313,13 @@ fn beats_of(alloc: Global, run: &str) -> Result<String, NoMemory> {
     Ok(beats)
 }
 
-// Nothing is done for a misfit among the beats.
-fn passes_by(
-    rt: &impl Abort,
-    alloc: Global,
-    site: &Site,
-    beats: &str,
-    misfit: &str,
-) -> Result<(), Fail>
+// Whether nothing is done for a misfit among the beats.
+fn passes_by(alloc: Global, site: &Site, beats: &str, misfit: &str) -> Result<bool, NoMemory>
     requires { IsServed site.now }
 {
     let mut play = Play::new(alloc);
     put_in(&mut play, beats, misfit)?;
-    serves(rt, site, misfit, play)
+    serves(site, play)
 }
 
 // .. for any of those in these lines; how many they are.
@@ -337,7 +335,7 @@ fn passes_by_all(
     let mut count: usize = 0;
     for line in run.lines() {
         if let Some(misfit) = line.strip_prefix("! ") {
-            passes_by(rt, alloc, site, beats, misfit)?;
+            assert!(rt; passes_by(alloc, site, beats, misfit)?, "{misfit}");
             count = count.saturating_add(1);
         }
     }

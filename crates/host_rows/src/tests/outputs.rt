@@ -4,7 +4,6 @@ use super::script::{bytes_of, column, count_of, is_row};
 use super::texts::{NO_OUTPUT, OUTPUT};
 use host_base::NoMemory;
 use std::alloc::Global;
-use std::process::Abort;
 use std::test::Fail;
 use std::thread::Threads;
 
@@ -145,50 +144,58 @@ const BEGIN: &[u8] = b"HTTP/1.1 200 OK\r\nContent-Type: text/plain\r\nContent-Le
 
 const GO_ON: &[u8] = b"\r\nConnection: close\r\n\r\n";
 
-// The reply to so many bytes of the first output, whose header has 26.
-fn reply_to(alloc: Global, count: usize) -> Result<Vec<u8>, NoMemory> {
-    let (front, _) = OUTPUT.split_at(count.min(OUTPUT.len()));
-    if front.is_empty() {
-        return Ok(Vec::from_slice(alloc, NO_OUTPUT)?);
-    }
-    if front.len() < 26 {
-        return Ok(Vec::from_slice(alloc, INCOMPLETE)?);
-    }
-    let (_, body) = front.split_at(26);
+// The reply to this body.
+fn reply_with(alloc: Global, body: &[u8]) -> Result<Vec<u8>, NoMemory> {
     let digits = body.len().to_string(alloc)?;
     let mut reply = repeated(alloc, BEGIN, digits.as_bytes(), 1, GO_ON)?;
     reply.extend_from_slice(body)?;
     Ok(reply)
 }
 
+// The reply to a front of the first output, whose header has 26 bytes.
+fn reply_to(alloc: Global, front: &[u8]) -> Result<Vec<u8>, NoMemory> {
+    if front.is_empty() {
+        Ok(Vec::from_slice(alloc, NO_OUTPUT)?)
+    } else if front.len() < 26 {
+        Ok(Vec::from_slice(alloc, INCOMPLETE)?)
+    } else {
+        let (_, body) = front.split_at(26);
+        reply_with(alloc, body)
+    }
+}
+
+// Whether this is the reply to a front of the first output.
+fn is_cut_off<R: Threads + Sync>(rt: &R, alloc: Global, front: &[u8]) -> Result<bool, NoMemory> {
+    let reply = reply_to(alloc, front)?;
+    let wanted = Wanted::Served(reply.as_slice());
+    is_right_in_any(rt, alloc, Part::Output, front, wanted)
+}
+
 #[test]
 fn an_output_that_is_cut_off(rt: HostRuntime) -> Result<(), Fail> {
-    let alloc = rt.alloc();
     for count in 0..OUTPUT.len() {
-        let reply = reply_to(alloc, count)?;
         let (front, _) = OUTPUT.split_at(count);
-        let wanted = Wanted::Served(reply.as_slice());
-        let right = is_right_in_any(&rt, alloc, Part::Output, front, wanted)?;
-        assert!(&rt; right, "{count} bytes");
+        assert!(rt; is_cut_off(&rt, rt.alloc(), front)?, "{count} bytes");
     }
     Ok(())
 }
 
 // A header has at most 8,192 bytes with its empty line: the longest `Content-Type: ` line that is taken has a
 // value of 8,176 bytes. With no body behind it no reply begins before the output ends.
-fn at_the_limit<R: Threads + Abort + Sync>(
+fn at_the_limit<R: Threads + Sync>(
     rt: &R,
     alloc: Global,
     count: usize,
     end: &[u8],
     reply: &[u8],
-) -> Result<(), Fail> {
+) -> Result<bool, NoMemory> {
     let output = repeated(alloc, b"Content-Type: ", b"a", count, end)?;
+    let text = output.as_slice();
     let wanted = Wanted::Served(reply);
-    let whole = is_right_whole(rt, alloc, Part::Output, output.as_slice(), wanted)?;
-    let in_two = is_right_in_two(rt, alloc, Part::Output, output.as_slice(), wanted)?;
-    assert!(rt; whole && in_two, "{count}");
-    Ok(())
+    Ok(
+        is_right_whole(rt, alloc, Part::Output, text, wanted)?
+            && is_right_in_two(rt, alloc, Part::Output, text, wanted)?,
+    )
 }
 
 #[test]
@@ -197,9 +204,15 @@ fn headers_at_the_limit(rt: HostRuntime) -> Result<(), Fail> {
     let before = b"HTTP/1.1 200 OK\r\nContent-Type: ";
     let after = b"\r\nContent-Length: 0\r\nConnection: close\r\n\r\n";
     let reply = repeated(alloc, before, b"a", 8_176, after)?;
-    at_the_limit(&rt, alloc, 8_176, b"\n\n", reply.as_slice())?;
-    at_the_limit(&rt, alloc, 8_177, b"\n\n", TOO_LARGE)?;
-    at_the_limit(&rt, alloc, 8_177, b"", INCOMPLETE)?;
-    at_the_limit(&rt, alloc, 8_178, b"", TOO_LARGE)?;
-    at_the_limit(&rt, alloc, 8_179, b"\n\nhi\n", TOO_LARGE)
+    let table: [(usize, &[u8], &[u8]); 5] = [
+        (8_176, b"\n\n", reply.as_slice()),
+        (8_177, b"\n\n", TOO_LARGE),
+        (8_177, b"", INCOMPLETE),
+        (8_178, b"", TOO_LARGE),
+        (8_179, b"\n\nhi\n", TOO_LARGE),
+    ];
+    for (count, end, reply) in table {
+        assert!(&rt; at_the_limit(&rt, alloc, count, end, reply)?, "{count}");
+    }
+    Ok(())
 }

@@ -8,6 +8,7 @@ use super::texts::{OUTPUT, REQUEST};
 use host_base::NoMemory;
 use host_run::Status;
 use host_trace::{Act, Item, Why};
+use memory_world::MemoryWorld;
 use std::alloc::Global;
 use std::thread::Threads;
 
@@ -102,31 +103,57 @@ fn is_wanted(outcome: &Outcome, wanted: Wanted) -> bool {
     }
 }
 
+// What is heard before a part and behind it.
+fn around(part: Part) -> (&'static [Heard<'static>], &'static [Heard<'static>]) {
+    match part {
+        Part::Request => (
+            &[Heard::Accepted],
+            &[
+                Heard::Started(0),
+                Heard::Output(0, OUTPUT),
+                Heard::OutputEof(0),
+                Heard::Exited(0),
+            ],
+        ),
+        Part::Output => (
+            &[
+                Heard::Accepted,
+                Heard::Client(0, REQUEST),
+                Heard::Started(0),
+            ],
+            &[Heard::OutputEof(0), Heard::Exited(0)],
+        ),
+    }
+}
+
+// Whether it comes of these items.
+fn come_to(alloc: Global, items: &[Item], wanted: Wanted) -> Result<bool, NoMemory> {
+    let outcome = outcome_of(alloc, items)?;
+    Ok(is_wanted(&outcome, wanted))
+}
+
 // The first exchange with these pieces in place of a part.
 fn exchange<'t>(
     alloc: Global,
     part: Part,
     pieces: &[&'t [u8]],
 ) -> Result<Vec<Heard<'t>>, NoMemory> {
-    let mut heard = Vec::new(alloc);
-    heard.push(Heard::Accepted)?;
-    if let Part::Output = part {
-        heard.push(Heard::Client(0, REQUEST))?;
-        heard.push(Heard::Started(0))?;
-    }
+    let (before, behind) = around(part);
+    let mut heard: Vec<Heard<'t>> = Vec::from_slice(alloc, before)?;
     for piece in pieces {
         heard.push(match part {
             Part::Request => Heard::Client(0, *piece),
             Part::Output => Heard::Output(0, *piece),
         })?;
     }
-    if let Part::Request = part {
-        heard.push(Heard::Started(0))?;
-        heard.push(Heard::Output(0, OUTPUT))?;
-    }
-    heard.push(Heard::OutputEof(0))?;
-    heard.push(Heard::Exited(0))?;
+    heard.extend_from_slice(behind)?;
     Ok(heard)
+}
+
+// A world of that exchange.
+fn world_in(alloc: Global, part: Part, pieces: &[&[u8]]) -> Result<MemoryWorld, NoMemory> {
+    let heard = exchange(alloc, part, pieces)?;
+    world_of(alloc, heard.as_slice())
 }
 
 // More turns than an exchange has events.
@@ -140,11 +167,9 @@ fn is_right<R: Threads + Sync>(
     pieces: &[&[u8]],
     wanted: Wanted,
 ) -> Result<bool, NoMemory> {
-    let heard = exchange(alloc, part, pieces)?;
-    let mut world = world_of(alloc, heard.as_slice())?;
+    let mut world = world_in(alloc, part, pieces)?;
     let status = runs(rt, alloc, &WORDS, &mut world)?;
-    let outcome = outcome_of(alloc, given(&world))?;
-    Ok(matches!(status, Status::Done) && is_wanted(&outcome, wanted))
+    Ok(matches!(status, Status::Done) && come_to(alloc, given(&world), wanted)?)
 }
 
 /// Whether it comes of a part that comes whole.

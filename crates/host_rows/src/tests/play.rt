@@ -5,6 +5,7 @@ use super::script::{beats_named, bytes_of, heard_of, is_event, words_of};
 use host_base::NoMemory;
 use host_run::Status;
 use host_trace::{Event, Events};
+use memory_world::MemoryWorld;
 use std::alloc::Global;
 use std::process::Abort;
 use std::test::Fail;
@@ -189,6 +190,28 @@ impl Play {
     }
 }
 
+// A world in which all is heard, and the lines of the trace that is to come of it.
+fn world_for(play: Play, limit: u32) -> Result<(MemoryWorld, String), NoMemory> {
+    let room = play.room();
+    let (alloc, events, refused, lines) = play.into_parts();
+    let world = world_with(alloc, events, refused, room, limit)?;
+    Ok((world, lines))
+}
+
+// The lines of the one trace of such a run; a text that is no trace where it doesn't end with Done.
+fn told_by<R: Threads + Sync>(
+    rt: &R,
+    alloc: Global,
+    words: &[&str],
+    world: MemoryWorld,
+) -> Result<String, NoMemory> {
+    let mut world = world;
+    match runs(rt, alloc, words, &mut world)? {
+        Status::Done => told(alloc, &world),
+        _ => Ok("not done".to_string(alloc)?),
+    }
+}
+
 /// The task of these words, over this site, hears it all and ends with Done, and its trace is this one.
 pub fn plays<R: Threads + Abort + Sync>(
     rt: &R,
@@ -197,12 +220,9 @@ pub fn plays<R: Threads + Abort + Sync>(
     name: &str,
     play: Play,
 ) -> Result<(), Fail> {
-    let room = play.room();
-    let (alloc, events, refused, lines) = play.into_parts();
-    let mut world = world_with(alloc, events, refused, room, limit_of(site))?;
-    let status = runs(rt, alloc, &[task, site], &mut world)?;
-    assert!(rt; matches!(status, Status::Done), "{name}");
-    let told = told(rt, alloc, &world)?;
+    let alloc = play.alloc();
+    let (world, lines) = world_for(play, limit_of(site))?;
+    let told = told_by(rt, alloc, &[task, site], world)?;
     assert_eq!(rt; told.as_str(), lines.as_str(), "{name}");
     Ok(())
 }

@@ -2,7 +2,7 @@
 use super::drive::{Heard, WORDS, runs, world_of};
 use super::lines::told;
 use super::texts::{OUTPUT, REQUEST};
-use host_base::Site;
+use host_base::{NoMemory, Site};
 use host_run::Status;
 use host_trace::{Item, Mode};
 use memory_world::MemoryWorld;
@@ -21,6 +21,13 @@ const FIRST: [Heard<'static>; 6] = [
 ];
 
 // ---- words and statuses
+
+// Whether the words have no form that there is, and the world gives no trace back.
+fn is_no_form<R: Threads + Sync>(rt: &R, alloc: Global, words: &[&str]) -> Result<bool, NoMemory> {
+    let mut world = world_of(alloc, &FIRST)?;
+    let status = runs(rt, alloc, words, &mut world)?;
+    Ok(matches!(status, Status::Usage) && world.given().is_empty())
+}
 
 #[test]
 fn words_of_no_form(rt: HostRuntime) -> Result<(), Fail> {
@@ -65,10 +72,7 @@ fn words_of_no_form(rt: HostRuntime) -> Result<(), Fail> {
         &["help"],
         &["--help", "site"],
     ] {
-        let mut world = world_of(rt.alloc(), &FIRST)?;
-        let status = runs(&rt, rt.alloc(), words, &mut world)?;
-        assert!(rt; matches!(status, Status::Usage));
-        assert_eq!(rt; world.given().len(), 0);
+        assert!(rt; is_no_form(&rt, rt.alloc(), words)?, "{words:?}");
     }
     Ok(())
 }
@@ -83,7 +87,7 @@ fn a_program_may_have_an_equals_sign(rt: HostRuntime) -> Result<(), Fail> {
         &mut world,
     )?;
     assert!(rt; matches!(status, Status::Done));
-    let told = told(&rt, rt.alloc(), &world)?;
+    let told = told(rt.alloc(), &world)?;
     assert!(rt; told.as_str().contains("Start 0 (0, 0, 0) /srv/a=b\n"));
     Ok(())
 }
@@ -92,63 +96,93 @@ fn a_program_may_have_an_equals_sign(rt: HostRuntime) -> Result<(), Fail> {
 fn a_world_that_refuses(rt: HostRuntime) -> Result<(), Fail> {
     let mut world = MemoryWorld::new(rt.alloc(), Vec::new(rt.alloc()));
     let status = runs(&rt, rt.alloc(), &WORDS, &mut world)?;
-    assert!(rt; matches!(status, Status::WorldRefused));
-    assert_eq!(rt; world.faults(), 1);
-    assert_eq!(rt; world.given().len(), 0);
+    let refused = matches!(status, Status::WorldRefused);
+    assert!(rt; refused && world.faults() == 1 && world.given().is_empty());
     Ok(())
 }
 
 // ---- what the world is entered for
 
 fn has_script(site: &Site, path: &str) -> bool {
-    site.hosts.as_slice().iter().any(|host| host
-        .scripts
-        .as_slice()
-        .iter()
-        .any(|script| script.path.as_str() == path))
+    for host in site.hosts.as_slice() {
+        for script in host.scripts.as_slice() {
+            if script.path.as_str() == path {
+                return true;
+            }
+        }
+    }
+    false
+}
+
+// Whether it was entered once, for one connection and a site with this script.
+fn is_entered_for(world: &MemoryWorld, path: &str) -> bool {
+    match world.entries() {
+        [entry] => {
+            world.tells_entries()
+                && entry.mode == Mode::Once
+                && entry.loops == 1
+                && has_script(&entry.site, path)
+        }
+        _ => false,
+    }
 }
 
 #[test]
 fn a_world_is_entered_for_one_connection(rt: HostRuntime) -> Result<(), Fail> {
     let mut world = world_of(rt.alloc(), &FIRST)?;
     let status = runs(&rt, rt.alloc(), &WORDS, &mut world)?;
-    assert!(rt; matches!(status, Status::Done));
-    assert!(rt; world.tells_entries());
-    match world.entries() {
-        [entry] => {
-            assert_eq!(rt; entry.mode, Mode::Once);
-            assert_eq!(rt; entry.loops, 1);
-            assert!(rt; has_script(&entry.site, "/cgi-bin/hello"));
-        }
-        _ => panic!(rt; "entered otherwise than once"),
-    }
+    let done = matches!(status, Status::Done);
+    assert!(rt; done && is_entered_for(&world, "/cgi-bin/hello"));
     Ok(())
+}
+
+// How many events were heard.
+fn heard_in(items: &[Item]) -> usize {
+    let mut count: usize = 0;
+    for item in items {
+        if let Item::In(_) = item {
+            count = count.saturating_add(1);
+        }
+    }
+    count
+}
+
+// Whether it was entered once, for sockets, and heard so many events.
+fn has_served(world: &MemoryWorld, events: usize) -> bool {
+    match (world.given(), world.entries()) {
+        ([trace], [entry]) => heard_in(trace.as_slice()) == events && entry.mode == Mode::Serve,
+        _ => false,
+    }
+}
+
+// Whether so many turns are spent by so many events.
+fn are_spent<R: Threads + Sync>(
+    rt: &R,
+    alloc: Global,
+    turns: &str,
+    events: usize,
+) -> Result<bool, NoMemory> {
+    let heard = [Heard::Accepted, Heard::Ticks(1), Heard::Ticks(1)];
+    let mut world = world_of(alloc, &heard)?;
+    let words = ["serve", "/cgi-bin/hello=/srv/cgi/hello", "--turns", turns];
+    let status = runs(rt, alloc, &words, &mut world)?;
+    Ok(matches!(status, Status::Spent) && has_served(&world, events))
 }
 
 #[test]
 fn turns_are_spent_over_sockets(rt: HostRuntime) -> Result<(), Fail> {
     for (turns, events) in [("1", 1), ("2", 2), ("0000000000000000002", 2)] {
-        let mut world = world_of(
-            rt.alloc(),
-            &[Heard::Accepted, Heard::Ticks(1), Heard::Ticks(1)],
-        )?;
-        let words = ["serve", "/cgi-bin/hello=/srv/cgi/hello", "--turns", turns];
-        let status = runs(&rt, rt.alloc(), &words, &mut world)?;
-        assert!(rt; matches!(status, Status::Spent), "{turns}");
-        match (world.given(), world.entries()) {
-            ([trace], [entry]) => {
-                let heard = trace
-                    .as_slice()
-                    .iter()
-                    .filter(|item| matches!(item, Item::In(_)))
-                    .count();
-                assert_eq!(rt; heard, events, "{turns}");
-                assert_eq!(rt; entry.mode, Mode::Serve, "{turns}");
-            }
-            _ => panic!(rt; "entered otherwise than once"),
-        }
+        let spent = are_spent(&rt, rt.alloc(), turns, events)?;
+        assert!(rt; spent, "{turns}");
     }
     Ok(())
+}
+
+// Whether the site of these words is not read, and no world is entered.
+fn is_unread<R: Threads + Sync>(rt: &R, alloc: Global, words: &[&str]) -> Result<bool, NoMemory> {
+    let mut world = world_of(alloc, &FIRST)?;
+    let status = runs(rt, alloc, words, &mut world)?;
+    Ok(matches!(status, Status::SiteUnread) && world.entries().is_empty())
 }
 
 #[test]
@@ -158,10 +192,7 @@ fn a_site_that_is_not_read_enters_no_world(rt: HostRuntime) -> Result<(), Fail> 
         &["serve", "none"],
         &["serve", "none", "--turns", "2"],
     ] {
-        let mut world = world_of(rt.alloc(), &FIRST)?;
-        let status = runs(&rt, rt.alloc(), words, &mut world)?;
-        assert!(rt; matches!(status, Status::SiteUnread));
-        assert_eq!(rt; world.entries().len(), 0);
+        assert!(rt; is_unread(&rt, rt.alloc(), words)?, "{words:?}");
     }
     Ok(())
 }

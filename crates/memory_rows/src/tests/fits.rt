@@ -1,11 +1,10 @@
 // Each row of the table of what fits, at its edges.
 use super::words::Word::{In, Out};
-use super::words::{Heard, Word, answers, event_of, heard_in, heard_of, items_of, word_in};
+use super::words::{Heard, Word, answers, event_of, events_of, heard_in, hears, items_of, word_in};
 use host_base::NoMemory;
-use host_trace::{Acted, Events, Outside};
+use host_trace::Acted;
 use memory_world::{MemoryOutside, fits};
 use std::alloc::Global;
-use std::process::Abort;
 use std::test::Fail;
 
 // How many children may run.
@@ -156,18 +155,19 @@ TALK_SHUT | WsText 0 1 | Tick
 TALK_SHUT | WsClosed 0 | Tick
 ";
 
-// The trace of this name; none where there is none, or a word of it is no event or act.
-fn trace_of(alloc: Global, name: &str) -> Result<Option<Vec<Word>>, NoMemory> {
+// The words of the trace of this name; none where there is none.
+fn trace_named(name: &str) -> Option<&'static str> {
     for line in TRACES.lines() {
         if let Some((first, words)) = line.split_once(" =") {
             if first == name {
-                return words_in(alloc, words);
+                return Some(words);
             }
         }
     }
-    Ok(None)
+    None
 }
 
+// The trace of these words; none where one of them is no event or act.
 fn words_in(alloc: Global, text: &str) -> Result<Option<Vec<Word>>, NoMemory> {
     let mut trace = Vec::new(alloc);
     if text.is_empty() {
@@ -182,117 +182,130 @@ fn words_in(alloc: Global, text: &str) -> Result<Option<Vec<Word>>, NoMemory> {
     Ok(Some(trace))
 }
 
-// A row: a trace, an event that doesn't fit after it, and one that does.
-#[derive(Drop)]
+// A row: the words of a trace, an event that doesn't fit after it, and one that does.
+#[derive(Clone, Copy)]
 struct Row {
-    trace: Vec<Word>,
+    words: &'static str,
     misfit: Heard,
     fit: Heard,
 }
 
-fn row_of(alloc: Global, line: &str) -> Result<Option<Row>, NoMemory> {
-    let (name, events) = line.split_once(" | ").unwrap_or((line, ""));
-    let (misfit, fit) = events.split_once(" | ").unwrap_or((events, ""));
-    let trace = trace_of(alloc, name)?;
-    match (trace, heard_in(misfit), heard_in(fit)) {
-        (Some(trace), Some(misfit), Some(fit)) => Ok(Some(Row { trace, misfit, fit })),
-        _ => Ok(None),
-    }
+fn row_of(line: &str) -> Option<Row> {
+    let (name, events) = line.split_once(" | ")?;
+    let (misfit, fit) = events.split_once(" | ")?;
+    Some(Row {
+        words: trace_named(name)?,
+        misfit: heard_in(misfit)?,
+        fit: heard_in(fit)?,
+    })
 }
 
-// The test of what fits says so.
-fn tests(rt: &impl Abort, alloc: Global, row: &Row) -> Result<(), Fail> {
-    let (trace, misfit, fit) = (row.trace.as_slice(), row.misfit, row.fit);
+// Whether the test of what fits says so of the event after the trace.
+fn fits_after(alloc: Global, trace: &[Word], heard: Heard) -> Result<bool, NoMemory> {
     let items = items_of(alloc, trace)?;
-    let wrong = event_of(alloc, misfit)?;
-    let right = event_of(alloc, fit)?;
-    assert!(rt;
-        !fits(items.as_slice(), &wrong, LIMIT),
-        "{misfit:?} after {trace:?}"
-    );
-    assert!(rt;
-        fits(items.as_slice(), &right, LIMIT),
-        "{fit:?} after {trace:?}"
-    );
-    Ok(())
+    let event = event_of(alloc, heard)?;
+    Ok(fits(items.as_slice(), &event, LIMIT))
 }
 
 // The events of the trace, and then the two of the row.
-fn listed(alloc: Global, trace: &[Word], misfit: Heard, fit: Heard) -> Result<Events, NoMemory> {
-    let mut events = Events::new(alloc);
+fn listed(alloc: Global, trace: &[Word], row: Row) -> Result<Vec<Heard>, NoMemory> {
+    let mut list = Vec::new(alloc);
     for word in trace {
         if let In(heard) = *word {
-            events.push(event_of(alloc, heard)?)?;
+            list.push(heard)?;
         }
     }
-    events.push(event_of(alloc, misfit)?)?;
-    events.push(event_of(alloc, fit)?)?;
-    Ok(events)
+    list.push(row.misfit)?;
+    list.push(row.fit)?;
+    Ok(list)
 }
 
-// The outside goes along the trace.
-fn follows(
-    rt: &impl Abort,
-    alloc: Global,
-    out: &mut MemoryOutside,
-    trace: &[Word],
-) -> Result<(), Fail> {
+// An outside of these events.
+fn outside(alloc: Global, list: &[Heard]) -> Result<MemoryOutside, NoMemory> {
+    MemoryOutside::new(alloc, events_of(alloc, list)?, Vec::new(alloc), 8, LIMIT)
+}
+
+// Whether the outside goes along the trace.
+fn follows(alloc: Global, out: &mut MemoryOutside, trace: &[Word]) -> Result<bool, NoMemory> {
     for word in trace {
-        match *word {
-            In(heard) => assert_eq!(rt; heard_of(&out.next()), heard, "in {trace:?}"),
-            Out(asked) => answers(rt, alloc, out, asked, Acted::Done)?,
+        let follows = match *word {
+            In(heard) => hears(out, heard),
+            Out(asked) => answers(alloc, out, asked, Acted::Done)?,
+        };
+        if !follows {
+            return Ok(false);
         }
     }
-    Ok(())
+    Ok(true)
 }
 
-// After the trace the outside passes over the event that doesn't fit.
-fn passes(rt: &impl Abort, alloc: Global, row: &Row) -> Result<(), Fail> {
-    let (trace, misfit, fit) = (row.trace.as_slice(), row.misfit, row.fit);
-    let events = listed(alloc, trace, misfit, fit)?;
-    let mut out = MemoryOutside::new(alloc, events, Vec::new(alloc), 8, LIMIT)?;
-    follows(rt, alloc, &mut out, trace)?;
-    assert_eq!(rt; heard_of(&out.next()), fit, "{misfit:?} after {trace:?}");
-    assert!(rt; out.tells());
-    Ok(())
+// Whether the outside passes over the event that doesn't fit after the trace.
+fn passes(alloc: Global, trace: &[Word], row: Row) -> Result<bool, NoMemory> {
+    let list = listed(alloc, trace, row)?;
+    let mut out = outside(alloc, list.as_slice())?;
+    Ok(follows(alloc, &mut out, trace)? && hears(&mut out, row.fit) && out.tells())
 }
 
-fn is_so(rt: &impl Abort, alloc: Global, row: &Row) -> Result<(), Fail> {
-    tests(rt, alloc, row)?;
-    passes(rt, alloc, row)
+fn is_so(alloc: Global, trace: &[Word], row: Row) -> Result<bool, NoMemory> {
+    Ok(
+        !fits_after(alloc, trace, row.misfit)?
+            && fits_after(alloc, trace, row.fit)?
+            && passes(alloc, trace, row)?,
+    )
 }
 
-fn has_row(rt: &impl Abort, alloc: Global, line: &str) -> Result<(), Fail> {
-    match row_of(alloc, line)? {
-        Some(row) => is_so(rt, alloc, &row),
-        None => panic!(rt; "{line}"),
+// Whether the line is a row, and it is so.
+fn has_row(alloc: Global, line: &str) -> Result<bool, NoMemory> {
+    let Some(row) = row_of(line) else {
+        return Ok(false);
+    };
+    match words_in(alloc, row.words)? {
+        Some(trace) => is_so(alloc, trace.as_slice(), row),
+        None => Ok(false),
     }
 }
 
-// Each of so many rows is so.
-fn has_rows(rt: &impl Abort, alloc: Global, table: &str, count: usize) -> Result<(), Fail> {
+fn is_row(line: &str) -> bool {
+    line.contains("|")
+}
+
+// The first row that isn't so.
+fn wrong_row(alloc: Global, table: &'static str) -> Result<Option<&'static str>, NoMemory> {
+    for line in table.lines() {
+        if is_row(line) && !has_row(alloc, line)? {
+            return Ok(Some(line));
+        }
+    }
+    Ok(None)
+}
+
+fn count_rows(table: &str) -> usize {
     let mut rows: usize = 0;
     for line in table.lines() {
-        if line.contains("|") {
-            has_row(rt, alloc, line)?;
+        if is_row(line) {
             rows = rows.saturating_add(1);
         }
     }
-    assert_eq!(rt; rows, count);
-    Ok(())
+    rows
 }
 
 #[test]
 fn clients(rt: HostRuntime) -> Result<(), Fail> {
-    has_rows(&rt, rt.alloc(), CLIENT_ROWS, 31)
+    assert_eq!(rt; wrong_row(rt.alloc(), CLIENT_ROWS)?, None);
+    assert_eq!(rt; count_rows(CLIENT_ROWS), 31);
+    Ok(())
 }
 
 #[test]
 fn children(rt: HostRuntime) -> Result<(), Fail> {
-    has_rows(&rt, rt.alloc(), CHILD_ROWS, 38)
+    assert_eq!(rt; wrong_row(rt.alloc(), CHILD_ROWS)?, None);
+    assert_eq!(rt; count_rows(CHILD_ROWS), 38);
+    Ok(())
 }
 
 #[test]
 fn talks(rt: HostRuntime) -> Result<(), Fail> {
-    has_rows(&rt, rt.alloc(), TALK_ROWS, 16)
+    assert_eq!(rt; wrong_row(rt.alloc(), TALK_ROWS)?, None);
+    assert_eq!(rt; count_rows(TALK_ROWS), 16);
+    Ok(())
 }

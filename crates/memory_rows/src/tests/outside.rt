@@ -7,12 +7,11 @@ use super::words::Heard::{
     Accepted, ChildBroken, ChildBytes, ClientBytes, ClientGone, Exited, InputGone, StartFailed,
     StartFull, Started, Stop, Tick, Took, Wrote, WsBad, WsText,
 };
-use super::words::{Asked, Heard, answers, does, events_of, hears};
+use super::words::{Asked, Heard, answers_all, events_of, hears_all};
 use host_base::NoMemory;
 use host_trace::Acted;
 use memory_world::MemoryOutside;
 use std::alloc::Global;
-use std::process::Abort;
 use std::test::Fail;
 
 fn outside(alloc: Global, list: &[Heard], room: usize) -> Result<MemoryOutside, NoMemory> {
@@ -32,64 +31,70 @@ const LIST: [Heard; 7] = [
 
 const HANDED_UP: [Heard; 5] = [ClientBytes(0, 3), Accepted, Tick, ClientGone(1), Stop];
 
-// A run of nine items: seven events, of which the last two come when the list is used up, and two acts.
-fn runs(rt: &impl Abort, alloc: Global, out: &mut MemoryOutside) -> Result<(), Fail> {
-    hears(rt, out, &[Accepted]);
-    does(rt, alloc, out, &[WantClient(0), Write(0, 2)])?;
-    hears(rt, out, &HANDED_UP);
-    hears(rt, out, &[Tick]);
-    Ok(())
+// Whether all is so in a run of nine items: seven events, of which the last two come when the list is used up, and two
+// acts.
+fn runs(alloc: Global, out: &mut MemoryOutside) -> Result<bool, NoMemory> {
+    Ok(
+        hears_all(out, &[Accepted])
+            && answers_all(alloc, out, &[WantClient(0), Write(0, 2)], Acted::Done)?
+            && hears_all(out, &HANDED_UP)
+            && hears_all(out, &[Tick]),
+    )
+}
+
+// Whether an outside of so much room tells before the run, and so after it.
+fn tells_after(alloc: Global, room: usize, tells: bool) -> Result<bool, NoMemory> {
+    let mut out = outside(alloc, &LIST, room)?;
+    Ok(out.tells() && runs(alloc, &mut out)? && out.tells() == tells && out.items().len() == 9)
 }
 
 #[test]
 fn past_its_room_the_telling_alone_ends(rt: HostRuntime) -> Result<(), Fail> {
     for (room, tells) in [(9, true), (100, true), (8, false), (1, false), (0, false)] {
-        let mut out = outside(rt.alloc(), &LIST, room)?;
-        assert!(rt; out.tells());
-        runs(&rt, rt.alloc(), &mut out)?;
-        assert_eq!(rt; out.tells(), tells, "room for {room}");
-        assert_eq!(rt; out.items().len(), 9);
+        assert!(rt; tells_after(rt.alloc(), room, tells)?, "room for {room}");
     }
     Ok(())
+}
+
+// Whether each Start is answered, and a later one too.
+fn answers_starts(alloc: Global, out: &mut MemoryOutside) -> Result<bool, NoMemory> {
+    let starts = [Start(3), Start(1), Start(0), Start(2)];
+    Ok(
+        hears_all(out, &[Accepted])
+            && answers_all(alloc, out, &starts, Acted::Done)?
+            && hears_all(
+                out,
+                &[StartFailed(1), Stop, Started(0), Started(2), Started(3)],
+            )
+            && hears_all(out, &[Exited(0), Exited(2), Exited(3), Tick, Tick])
+            && answers_all(alloc, out, &[Start(4)], Acted::Done)?
+            && hears_all(out, &[Started(4), Exited(4), Tick]),
+    )
 }
 
 #[test]
 fn a_list_that_is_used_up(rt: HostRuntime) -> Result<(), Fail> {
     let mut out = outside(rt.alloc(), &[Accepted, StartFailed(1)], 100)?;
-    hears(&rt, &mut out, &[Accepted]);
-    does(
-        &rt,
-        rt.alloc(),
-        &mut out,
-        &[Start(3), Start(1), Start(0), Start(2)],
-    )?;
-    hears(
-        &rt,
-        &mut out,
-        &[StartFailed(1), Stop, Started(0), Started(2), Started(3)],
-    );
-    hears(
-        &rt,
-        &mut out,
-        &[Exited(0), Exited(2), Exited(3), Tick, Tick],
-    );
-    // A later Start is answered too.
-    does(&rt, rt.alloc(), &mut out, &[Start(4)])?;
-    hears(&rt, &mut out, &[Started(4), Exited(4), Tick]);
+    assert!(rt; answers_starts(rt.alloc(), &mut out)?);
     assert!(rt; out.tells());
     Ok(())
+}
+
+fn hears_once(alloc: Global, out: &mut MemoryOutside) -> Result<bool, NoMemory> {
+    Ok(
+        hears_all(out, &[Accepted])
+            && answers_all(alloc, out, &[Start(0), Start(1)], Acted::Done)?
+            && hears_all(
+                out,
+                &[Stop, Started(0), Exited(0), Started(1), Exited(1), Tick],
+            ),
+    )
 }
 
 #[test]
 fn what_was_listed_comes_no_second_time(rt: HostRuntime) -> Result<(), Fail> {
     let mut out = outside(rt.alloc(), &[Accepted, Stop, Started(0), Exited(0)], 100)?;
-    hears(&rt, &mut out, &[Accepted]);
-    does(&rt, rt.alloc(), &mut out, &[Start(0), Start(1)])?;
-    hears(
-        &rt,
-        &mut out,
-        &[Stop, Started(0), Exited(0), Started(1), Exited(1), Tick],
-    );
+    assert!(rt; hears_once(rt.alloc(), &mut out)?);
     Ok(())
 }
 
@@ -105,17 +110,17 @@ const LIGHT: [Asked; 7] = [
 
 const HEAVY: [Asked; 5] = [Write(0, 1), Start(0), Feed(0, 1), Upgrade(0), Says(0, 1)];
 
-fn all_answer(
-    rt: &impl Abort,
-    alloc: Global,
-    out: &mut MemoryOutside,
-    acts: &[Asked],
-    acted: Acted,
-) -> Result<(), Fail> {
-    for asked in acts {
-        answers(rt, alloc, out, *asked, acted)?;
-    }
-    Ok(())
+// Whether the first twelve acts, and the fifteenth, find no room where they carry anything.
+fn finds_no_room(alloc: Global, out: &mut MemoryOutside) -> Result<bool, NoMemory> {
+    Ok(
+        answers_all(alloc, out, &LIGHT, Acted::Done)?
+            && answers_all(alloc, out, &HEAVY, Acted::NoRoom)?
+            && out.items().len() == 7
+            && answers_all(alloc, out, &[Write(0, 1), WantClient(0)], Acted::Done)?
+            && answers_all(alloc, out, &[Write(0, 1)], Acted::NoRoom)?
+            && answers_all(alloc, out, &HEAVY, Acted::Done)?
+            && out.items().len() == 14,
+    )
 }
 
 #[test]
@@ -124,14 +129,7 @@ fn acts_that_find_no_room(rt: HostRuntime) -> Result<(), Fail> {
     // The first twelve acts, and the fifteenth.
     let refused = vec![in alloc; 14, 11, 10, 9, 8, 7, 6, 5, 4, 3, 2, 1, 0]?;
     let mut out = MemoryOutside::new(alloc, events_of(alloc, &[])?, refused, 100, 2)?;
-    all_answer(&rt, alloc, &mut out, &LIGHT, Acted::Done)?;
-    all_answer(&rt, alloc, &mut out, &HEAVY, Acted::NoRoom)?;
-    assert_eq!(rt; out.items().len(), 7);
-    answers(&rt, alloc, &mut out, Write(0, 1), Acted::Done)?;
-    answers(&rt, alloc, &mut out, WantClient(0), Acted::Done)?;
-    answers(&rt, alloc, &mut out, Write(0, 1), Acted::NoRoom)?;
-    all_answer(&rt, alloc, &mut out, &HEAVY, Acted::Done)?;
-    assert_eq!(rt; out.items().len(), 14);
+    assert!(rt; finds_no_room(alloc, &mut out)?);
     assert!(rt; out.tells());
     Ok(())
 }
@@ -154,14 +152,20 @@ const WILD: [Heard; 14] = [
     Started(3),
 ];
 
+fn hands_up_all(alloc: Global, out: &mut MemoryOutside) -> Result<bool, NoMemory> {
+    Ok(
+        hears_all(out, &WILD)
+            && answers_all(alloc, out, &[Write(9, 1)], Acted::Done)?
+            && answers_all(alloc, out, &[Write(9, 1)], Acted::NoRoom)?
+            && answers_all(alloc, out, &[Shut(9)], Acted::Done)?,
+    )
+}
+
 #[test]
 fn the_wild_hands_up_everything(rt: HostRuntime) -> Result<(), Fail> {
     let alloc = rt.alloc();
     let mut out = MemoryOutside::wild(alloc, events_of(alloc, &WILD)?, vec![in alloc; 1]?, 2)?;
-    hears(&rt, &mut out, &WILD);
-    answers(&rt, alloc, &mut out, Write(9, 1), Acted::Done)?;
-    answers(&rt, alloc, &mut out, Write(9, 1), Acted::NoRoom)?;
-    answers(&rt, alloc, &mut out, Shut(9), Acted::Done)?;
+    assert!(rt; hands_up_all(alloc, &mut out)?);
     assert!(rt; !out.tells());
     Ok(())
 }

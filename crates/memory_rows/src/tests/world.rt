@@ -2,14 +2,13 @@
 ghost use Rattle.std.specs.Prelude.{◌<◌};
 
 use super::words::Heard::{Accepted, Stop, Tick};
-use super::words::{Heard, events_of, hears};
+use super::words::{Heard, events_of, hears_all};
 use host_base::{
     Bytes, Docs, Hosts, Limits, NoMemory, Sink, SinkFault, Site, SiteStore, StoreFault, Text,
 };
 use host_trace::{EnterFault, Mode, World};
 use memory_world::{MemoryOutside, MemorySink, MemoryStore, MemoryWorld, StoredFile};
 use std::alloc::Global;
-use std::process::Abort;
 use std::test::Fail;
 
 fn site(alloc: Global) -> Result<Site, NoMemory> {
@@ -34,10 +33,30 @@ fn world(alloc: Global, limit: u32) -> Result<MemoryWorld, NoMemory> {
     Ok(MemoryWorld::new(alloc, outs))
 }
 
-fn both_hear(rt: &impl Abort, outs: &mut [MemoryOutside]) {
-    if let [first, second] = outs {
-        hears(rt, first, &[Accepted, Stop, Tick]);
-        hears(rt, second, &[Stop]);
+fn both_hear(outs: &mut [MemoryOutside]) -> bool {
+    match outs {
+        [first, second] => hears_all(first, &[Accepted, Stop, Tick]) && hears_all(second, &[Stop]),
+        _ => false,
+    }
+}
+
+// Whether both outsides are entered and hear their events, after which they are left.
+fn runs(world: &mut MemoryWorld, site: &Site) -> bool {
+    match world.enter(Mode::Serve, site, 2) {
+        Ok(mut outs) => {
+            let heard = both_hear(outs.as_mut_slice());
+            world.leave(outs);
+            heard
+        }
+        Err(_) => false,
+    }
+}
+
+// Whether traces of three items and of one were given.
+fn gave(world: &MemoryWorld) -> bool {
+    match world.given() {
+        [first, second] => first.len() == 3 && second.len() == 1,
+        _ => false,
     }
 }
 
@@ -46,38 +65,34 @@ fn traces_come_back_in_order(rt: HostRuntime) -> Result<(), Fail> {
     let site = site(rt.alloc())?;
     let mut world = world(rt.alloc(), 64)?;
     assert!(rt; world.tells());
-    let mut outs = match world.enter(Mode::Serve, &site, 2) {
-        Ok(outs) => outs,
-        Err(fault) => panic!(rt; "{fault:?}"),
-    };
-    both_hear(&rt, outs.as_mut_slice());
-    world.leave(outs);
+    assert!(rt; runs(&mut world, &site));
     assert!(rt; world.tells());
-    assert_eq!(rt; world.given().len(), 2);
-    assert_eq!(rt; world.given()[0].len(), 3);
-    assert_eq!(rt; world.given()[1].len(), 1);
+    assert!(rt; gave(&world));
     Ok(())
 }
 
-// Entering fails, and is counted.
-fn refuses(rt: &impl Abort, world: &mut MemoryWorld, site: &Site, loops: u32, faults: u64)
+// Whether entering fails, and is counted.
+fn refuses(world: &mut MemoryWorld, site: &Site, loops: u32, faults: u64) -> bool
     requires { 0 < loops }
 {
     match world.enter(Mode::Serve, site, loops) {
-        Ok(_) => panic!(rt; "entered"),
-        Err(fault) => assert_eq!(rt; fault, EnterFault::Failed),
+        Ok(_) => false,
+        Err(fault) => fault == EnterFault::Failed && world.faults() == faults,
     }
-    assert_eq!(rt; world.faults(), faults);
+}
+
+fn is_entered_once(world: &mut MemoryWorld, site: &Site) -> bool {
+    refuses(world, site, 1, 1)
+        && refuses(world, site, 3, 2)
+        && world.enter(Mode::Serve, site, 2).is_ok()
+        && refuses(world, site, 2, 3)
 }
 
 #[test]
 fn a_world_is_entered_once(rt: HostRuntime) -> Result<(), Fail> {
     let site = site(rt.alloc())?;
     let mut world = world(rt.alloc(), 64)?;
-    refuses(&rt, &mut world, &site, 1, 1);
-    refuses(&rt, &mut world, &site, 3, 2);
-    assert_eq!(rt; world.enter(Mode::Serve, &site, 2).is_ok(), true);
-    refuses(&rt, &mut world, &site, 2, 3);
+    assert!(rt; is_entered_once(&mut world, &site));
     Ok(())
 }
 
@@ -85,7 +100,7 @@ fn a_world_is_entered_once(rt: HostRuntime) -> Result<(), Fail> {
 fn a_world_of_another_limit_is_refused(rt: HostRuntime) -> Result<(), Fail> {
     let site = site(rt.alloc())?;
     let mut world = world(rt.alloc(), 63)?;
-    refuses(&rt, &mut world, &site, 2, 1);
+    assert!(rt; refuses(&mut world, &site, 2, 1));
     Ok(())
 }
 
@@ -96,38 +111,58 @@ fn file(alloc: Global, name: &str, bytes: &[u8]) -> Result<StoredFile, NoMemory>
     })
 }
 
-fn store(alloc: Global) -> Result<MemoryStore, NoMemory> {
+fn files(alloc: Global) -> Result<Vec<StoredFile>, NoMemory> {
     let mut files = Vec::new(alloc);
     files.push(file(alloc, "a", b"version = 1")?)?;
     files.push(file(alloc, "b", b"")?)?;
-    let mut failing = Vec::new(alloc);
-    failing.push(Text::copy_of(alloc, "b")?)?;
-    Ok(MemoryStore::new(files, failing))
+    Ok(files)
+}
+
+fn store(alloc: Global) -> Result<MemoryStore, NoMemory> {
+    let failing = vec![in alloc; Text::copy_of(alloc, "b")?]?;
+    Ok(MemoryStore::new(files(alloc)?, failing))
+}
+
+// Whether reading a file fails, and is counted.
+fn fails(store: &mut MemoryStore, name: &str, faults: u64) -> bool {
+    match store.read(name) {
+        Ok(_) => false,
+        Err(fault) => fault == StoreFault::Failed && store.faults() == faults,
+    }
+}
+
+// Whether reading a file gives these bytes.
+fn gives(store: &mut MemoryStore, name: &str, bytes: &[u8]) -> bool {
+    match store.read(name) {
+        Ok(read) => read.as_slice() == bytes,
+        Err(_) => false,
+    }
 }
 
 #[test]
 fn a_store_and_its_faults(rt: HostRuntime) -> Result<(), Fail> {
     let mut store = store(rt.alloc())?;
     for (name, faults) in [("b", 1), ("c", 2), ("", 3), ("b", 4)] {
-        assert_eq!(rt; store.read(name).err(), Some(StoreFault::Failed), "{name}");
-        assert_eq!(rt; store.faults(), faults, "{name}");
+        assert!(rt; fails(&mut store, name, faults), "{name}");
     }
-    match store.read("a") {
-        Ok(bytes) => assert_eq!(rt; bytes.as_slice(), b"version = 1".as_slice()),
-        Err(fault) => panic!(rt; "{fault:?}"),
-    }
+    assert!(rt; gives(&mut store, "a", b"version = 1"));
     assert_eq!(rt; store.faults(), 4);
     Ok(())
+}
+
+// Whether the second of three puts fails, and is counted.
+fn puts(sink: &mut MemorySink) -> bool {
+    sink.put(b"ab").is_ok()
+        && sink.put(b"cdef") == Err(SinkFault::Failed)
+        && sink.faults() == 1
+        && sink.put(b"g").is_ok()
 }
 
 #[test]
 fn a_sink_and_its_faults(rt: HostRuntime) -> Result<(), Fail> {
     let alloc = rt.alloc();
     let mut sink = MemorySink::new(alloc, vec![in alloc; 1]?);
-    assert_eq!(rt; sink.put(b"ab"), Ok(()));
-    assert_eq!(rt; sink.put(b"cdef"), Err(SinkFault::Failed));
-    assert_eq!(rt; sink.faults(), 1);
-    assert_eq!(rt; sink.put(b"g"), Ok(()));
+    assert!(rt; puts(&mut sink));
     assert_eq!(rt; sink.written(), b"abcdg".as_slice());
     assert_eq!(rt; sink.faults(), 1);
     Ok(())

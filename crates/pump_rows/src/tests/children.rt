@@ -1,3 +1,4 @@
+ghost use Rattle.std.specs.Prelude.{◌<◌, IfOk};
 ghost use Rattle.child_edge.specs.Rows.{AllSound};
 
 mod fake_kid;
@@ -62,36 +63,94 @@ const PLAIN: Plan = Plan {
     start_fails: false,
 };
 
+// A set of this spawner and of so much room, in which child k was started for connection c.
+fn started<S: Spawner + Drop>(
+    alloc: Global,
+    spawner: S,
+    cap: u32,
+    k: u64,
+    c: u64,
+) -> Result<ChildSet<S>, Fail>
+    requires { 0 < cap }
+    ensures { IfOk result (λ set. AllSound S.Kid.tells set.rows.items) }
+{
+    let launch = launch(alloc)?;
+    let mut set = ChildSet::new(alloc, spawner, cap)?;
+    set.start(k, c, &launch)?;
+    Ok(set)
+}
+
+// Whether the next that is told has this letter and number.
+fn tells<S: Spawner + Drop>(set: &mut ChildSet<S>, told: u8, k: u64) -> bool
+    requires { AllSound S.Kid.tells set.old.rows.items }
+    ensures { AllSound S.Kid.tells set.new.rows.items }
+{
+    let (heard, child) = letter(&set.poll());
+    heard == told && child == k
+}
+
+// Whether the next that is told is that child 0 took so many bytes.
+fn takes<S: Spawner + Drop>(set: &mut ChildSet<S>, count: u64) -> bool
+    requires { AllSound S.Kid.tells set.old.rows.items }
+    ensures { AllSound S.Kid.tells set.new.rows.items }
+{
+    match set.poll() {
+        Some(Event::Took { k, n }) => k == 0 && n == count,
+        _ => false,
+    }
+}
+
+// Whether the next that is told is this output of child 0.
+fn gives<S: Spawner + Drop>(set: &mut ChildSet<S>, output: &[u8]) -> bool
+    requires { AllSound S.Kid.tells set.old.rows.items }
+    ensures { AllSound S.Kid.tells set.new.rows.items }
+{
+    match set.poll() {
+        Some(Event::ChildBytes { k, bytes }) => k == 0 && bytes.as_slice() == output,
+        _ => false,
+    }
+}
+
+// Whether child 0, whose input was fed and ended, is told of to its end.
+fn runs_to_its_end<S: Spawner + Drop>(set: &mut ChildSet<S>) -> bool
+    requires { AllSound S.Kid.tells set.old.rows.items }
+{
+    let took = takes(set, 3);
+    // Nothing is wanted, and it runs.
+    let ran = tells(set, b'-', 0);
+    set.want(0);
+    let gave = gives(set, b"xxx");
+    let exited = tells(set, b'd', 0);
+    set.want(0);
+    let ended = tells(set, b'e', 0);
+    let settled = set.running() == 0;
+    let quiet = tells(set, b'-', 0);
+    took && ran && gave && exited && ended && settled && quiet && set.len() == 0
+}
+
 #[test]
 fn a_child_from_start_to_exit(rt: HostRuntime) -> Result<(), Fail> {
-    let alloc = rt.alloc();
-    let mut set = ChildSet::new(alloc, FakeSpawner::new(rt, PLAIN), 4)?;
-    set.start(0, 7, &launch(alloc)?)?;
+    let mut set = started(rt.alloc(), FakeSpawner::new(rt, PLAIN), 4, 0, 7)?;
     set.feed(0, b"abc")?;
     set.end_input(0);
-    match set.poll() {
-        Some(Event::Took { k, n }) => {
-            assert_eq!(rt; k, 0);
-            assert_eq!(rt; n, 3);
-        }
-        _ => return Err(Fail::from("nothing was taken")),
-    }
-    assert!(rt; set.poll().is_none(), "nothing is wanted, and it runs");
-    set.want(0);
-    match set.poll() {
-        Some(Event::ChildBytes { k, bytes }) => {
-            assert_eq!(rt; k, 0);
-            assert_eq!(rt; bytes.as_slice(), b"xxx".as_slice());
-        }
-        _ => return Err(Fail::from("no bytes")),
-    }
-    assert_eq!(rt; letter(&set.poll()), (b'd', 0));
-    set.want(0);
-    assert_eq!(rt; letter(&set.poll()), (b'e', 0));
-    assert_eq!(rt; set.running(), 0);
-    assert!(rt; set.poll().is_none(), "all was told");
-    assert_eq!(rt; set.len(), 0);
+    assert!(rt; runs_to_its_end(&mut set));
     Ok(())
+}
+
+// What is told of child 3 at each of so many turns, whose input is fed or ended.
+fn told_of<S: Spawner + Drop>(
+    alloc: Global,
+    spawner: S,
+    feeds: bool,
+    turns: usize,
+) -> Result<Vec<u8>, Fail> {
+    let mut set = started(alloc, spawner, 1, 3, 7)?;
+    if feeds {
+        set.feed(3, b"a")?;
+    } else {
+        set.end_input(3);
+    }
+    Ok(told_in(alloc, &mut set, 3, turns)?)
 }
 
 #[test]
@@ -134,17 +193,22 @@ fn what_fails_is_told(rt: HostRuntime) -> Result<(), Fail> {
         ),
     ];
     for (plan, told) in rows {
-        let mut set = ChildSet::new(alloc, FakeSpawner::new(rt, plan), 1)?;
-        set.start(3, 7, &launch(alloc)?)?;
-        if plan.in_fails {
-            set.feed(3, b"a")?;
-        } else {
-            set.end_input(3);
-        }
-        let letters = told_in(alloc, &mut set, 3, told.len())?;
+        let letters = told_of(alloc, FakeSpawner::new(rt, plan), plan.in_fails, told.len())?;
         assert_eq!(rt; letters.as_slice(), told);
     }
     Ok(())
+}
+
+// Whether a set that started no child keeps none, and tells nothing.
+fn keeps_nothing<S: Spawner + Drop>(set: &mut ChildSet<S>) -> bool
+    requires { AllSound S.Kid.tells set.old.rows.items }
+{
+    let none = set.len() == 0;
+    let quiet = tells(set, b'-', 0);
+    set.want(0);
+    set.kill(0);
+    let fed = set.feed(0, b"a").is_ok();
+    none && quiet && fed && tells(set, b'-', 0)
 }
 
 #[test]
@@ -154,31 +218,32 @@ fn a_start_that_fails_keeps_nothing(rt: HostRuntime) -> Result<(), Fail> {
         start_fails: true,
         ..PLAIN
     };
+    let launch = launch(alloc)?;
     let mut set = ChildSet::new(alloc, FakeSpawner::new(rt, plan), 1)?;
-    assert_eq!(rt; set.start(0, 0, &launch(alloc)?), Err(SpawnFault::Failed));
-    assert_eq!(rt; set.len(), 0);
-    assert!(rt; set.poll().is_none());
-    set.want(0);
-    set.kill(0);
-    assert_eq!(rt; set.feed(0, b"a"), Ok(()));
-    assert!(rt; set.poll().is_none());
+    assert_eq!(rt; set.start(0, 0, &launch), Err(SpawnFault::Failed));
+    assert!(rt; keeps_nothing(&mut set));
     Ok(())
 }
 
-#[test]
-fn a_released_child_is_settled_by_its_exit(rt: HostRuntime) -> Result<(), Fail> {
-    let alloc = rt.alloc();
-    let mut set = ChildSet::new(alloc, FakeSpawner::new(rt, PLAIN), 1)?;
-    set.start(5, 0, &launch(alloc)?)?;
-    set.end_input(5);
+// Whether child 5, once it is released, is settled by its exit.
+fn is_settled_by_exit<S: Spawner + Drop>(set: &mut ChildSet<S>) -> bool
+    requires { AllSound S.Kid.tells set.old.rows.items }
+{
     set.want(5);
     set.release(5);
     set.want(5);
     set.kill(5);
-    assert_eq!(rt; set.running(), 1);
-    assert_eq!(rt; letter(&set.poll()), (b'd', 5));
-    assert_eq!(rt; set.running(), 0);
-    assert!(rt; set.poll().is_none());
-    assert_eq!(rt; set.len(), 0);
+    let ran = set.running() == 1;
+    let exited = tells(set, b'd', 5);
+    let ended = set.running() == 0;
+    let quiet = tells(set, b'-', 0);
+    ran && exited && ended && quiet && set.len() == 0
+}
+
+#[test]
+fn a_released_child_is_settled_by_its_exit(rt: HostRuntime) -> Result<(), Fail> {
+    let mut set = started(rt.alloc(), FakeSpawner::new(rt, PLAIN), 1, 5, 0)?;
+    set.end_input(5);
+    assert!(rt; is_settled_by_exit(&mut set));
     Ok(())
 }

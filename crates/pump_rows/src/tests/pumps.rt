@@ -1,11 +1,50 @@
+ghost use Rattle.std.specs.Prelude.{◌≡◌, ◌<◌, true};
+ghost use Rattle.pipe_pump.specs.Rings.{IsOtherEnd, is_open};
+
 mod fakes;
 mod relay;
 
 use fakes::{Drain, Pieces, Told};
+use host_base::NoMemory;
 use pipe_pump::*;
 use relay::{feed_through, relay};
 use std::alloc::Global;
+use std::sync::Wait;
 use std::test::Fail;
+use std::thread::Threads;
+
+// Whether these bytes, four at most, are taken from a tap whose pump has ended: two of them before the tap is finished.
+fn has_taken(tap: &mut Tap, ring: RingEnd, taken: &[u8]) -> bool
+    requires { IsOtherEnd ring tap.old }
+{
+    let mut into = [0u8; 2];
+    let mut rest = [0u8; 4];
+    let standing = tap.look();
+    let first = tap.take(&mut into);
+    let left = tap.finish(ring);
+    let more = tap.take(&mut rest);
+    standing == taken.len()
+        && first == taken.len().min(2)
+        && left == taken.len() - first
+        && into[..first] == taken[..first]
+        && rest[..more] == taken[first..]
+        && tap.take(&mut into) == 0
+}
+
+// Whether the pump of this pipe ends so, and what it gave is taken.
+fn pumps_out<R: Wait>(
+    rt: &R,
+    alloc: Global,
+    pipe: Pieces,
+    end: PumpEnd,
+    taken: &[u8],
+) -> Result<bool, NoMemory> {
+    let (ring, mut tap) = rings(alloc, 16)?;
+    let fails = pipe.fails;
+    let done = pump_out(rt, pipe, ring);
+    let ended = done.end == end && done.pipe.faults == u64::from(fails);
+    Ok(has_taken(&mut tap, done.ring, taken) && ended)
+}
 
 #[test]
 fn what_a_pipe_gives_is_taken(rt: HostRuntime) -> Result<(), Fail> {
@@ -18,29 +57,52 @@ fn what_a_pipe_gives_is_taken(rt: HostRuntime) -> Result<(), Fail> {
         (&[], true, PumpEnd::Broken, b""),
     ];
     for (pieces, fails, end, taken) in rows {
-        let (ring, mut tap) = rings(alloc, 16)?;
         let pipe = Pieces::new(alloc, pieces, fails)?;
-        let done = pump_out(&rt, pipe, ring);
-        assert_eq!(rt; done.end, end);
-        assert_eq!(rt; done.pipe.faults, u64::from(fails));
-        let mut into = [0u8; 2];
-        assert_eq!(rt; tap.look(), taken.len());
-        let first = tap.take(&mut into);
-        assert_eq!(rt; first, taken.len().min(2));
-        assert_eq!(rt; tap.finish(done.ring), taken.len() - first);
-        let mut rest = [0u8; 4];
-        let more = tap.take(&mut rest);
-        let mut all = into[..first].to_vec(alloc)?;
-        all.extend_from_slice(&rest[..more])?;
-        assert_eq!(rt; all.as_slice(), taken);
-        assert_eq!(rt; tap.take(&mut into), 0);
+        assert!(rt;
+            pumps_out(&rt, alloc, pipe, end, taken)?,
+            "{pieces:?} {fails}"
+        );
     }
     Ok(())
 }
 
+// Whether a ring of four bytes takes so many, and is closed.
+fn is_filled(feeder: &mut Feeder) -> bool
+    requires { is_open feeder.old ≡ true }
+{
+    let fed = feeder.feed(b"abc");
+    let left = feeder.left();
+    let more = feeder.feed(b"de");
+    feeder.finish();
+    fed == 3 && left == 3 && more == 1 && !feeder.is_open()
+}
+
+// Whether the pump to a pipe that fails at the write of this number ends so, and the pipe took this.
+fn pumps_in<R: Wait>(
+    rt: &R,
+    alloc: Global,
+    fails_at: u32,
+    end: PumpEnd,
+    taken: &[u8],
+) -> Result<bool, NoMemory> {
+    let (mut feeder, ring) = feed_rings(alloc, 4)?;
+    let filled = is_filled(&mut feeder);
+    let PumpDone {
+        end: ended,
+        pipe,
+        ..
+    } = pump_in(rt, ring, Drain::new(alloc, fails_at));
+    Ok(
+        filled
+            && ended == end
+            && pipe.taken.as_slice().starts_with(taken)
+            && pipe.faults == u64::from(fails_at < 9)
+            && pipe.is_finished == (fails_at == 9),
+    )
+}
+
 #[test]
 fn what_is_fed_is_taken_by_the_pipe(rt: HostRuntime) -> Result<(), Fail> {
-    let alloc = rt.alloc();
     // (the pipe fails at the write of this number, the end of the pump, what the pipe took)
     let rows: [(u32, PumpEnd, &[u8]); 3] = [
         (9, PumpEnd::AtEnd, b"abc"),
@@ -48,35 +110,64 @@ fn what_is_fed_is_taken_by_the_pipe(rt: HostRuntime) -> Result<(), Fail> {
         (0, PumpEnd::Broken, b""),
     ];
     for (fails_at, end, taken) in rows {
-        let (mut feeder, ring) = feed_rings(alloc, 4)?;
-        assert_eq!(rt; feeder.feed(b"abc"), 3);
-        assert_eq!(rt; feeder.left(), 3);
-        assert_eq!(rt; feeder.feed(b"de"), 1);
-        feeder.finish();
-        assert!(rt; !feeder.is_open());
-        let done = pump_in(&rt, ring, Drain::new(alloc, fails_at));
-        assert_eq!(rt; done.end, end);
-        assert!(rt; done.pipe.taken.as_slice().starts_with(taken));
-        assert_eq!(rt; done.pipe.faults, u64::from(fails_at < 9));
-        assert_eq!(rt; done.pipe.is_finished, fails_at == 9);
+        assert!(rt;
+            pumps_in(&rt, rt.alloc(), fails_at, end, taken)?,
+            "{fails_at}"
+        );
     }
     Ok(())
 }
 
-#[test]
-fn a_ring_whose_other_end_is_gone(rt: HostRuntime) -> Result<(), Fail> {
-    let alloc = rt.alloc();
+// How a pump ends whose tap is gone.
+fn end_without_tap<R: Wait>(rt: &R, alloc: Global) -> Result<PumpEnd, NoMemory> {
+    let pipe = Pieces::new(alloc, &[b"ab", b"c", b"d"], false)?;
     let (ring, tap) = rings(alloc, 2)?;
     drop(tap);
-    let done = pump_out(&rt, Pieces::new(alloc, &[b"ab", b"c", b"d"], false)?, ring);
-    assert_eq!(rt; done.end, PumpEnd::Abandoned);
+    Ok(pump_out(rt, pipe, ring).end)
+}
+
+// How a pump ends whose feeder is gone, and what its pipe took.
+fn end_without_feeder<R: Wait>(rt: &R, alloc: Global) -> Result<(PumpEnd, Vec<u8>), NoMemory> {
     let (mut feeder, ring) = feed_rings(alloc, 8)?;
     feeder.feed(b"abc");
     drop(feeder);
-    let done = pump_in(&rt, ring, Drain::new(alloc, 9));
-    assert_eq!(rt; done.end, PumpEnd::Abandoned);
-    assert_eq!(rt; done.pipe.taken.as_slice(), b"abc".as_slice());
+    let done = pump_in(rt, ring, Drain::new(alloc, 9));
+    Ok((done.end, done.pipe.taken))
+}
+
+#[test]
+fn a_ring_whose_other_end_is_gone(rt: HostRuntime) -> Result<(), Fail> {
+    assert_eq!(rt; end_without_tap(&rt, rt.alloc())?, PumpEnd::Abandoned);
+    let (end, taken) = end_without_feeder(&rt, rt.alloc())?;
+    assert_eq!(rt; end, PumpEnd::Abandoned);
+    assert_eq!(rt; taken.as_slice(), b"abc".as_slice());
     Ok(())
+}
+
+// Whether bytes come whole through a pump from a pipe.
+fn are_relayed<R: Threads + Wait + Copy + Drop + Send + 'static>(
+    rt: &R,
+    alloc: Global,
+    bytes: &[u8],
+    size: usize,
+) -> Result<bool, Fail>
+    requires { 0 < size }
+{
+    let (taken, end, _) = relay(rt, alloc, Told::new(bytes, alloc)?, size)?;
+    Ok(end == PumpEnd::AtEnd && taken.as_slice() == bytes)
+}
+
+// Whether bytes come whole through a pump to a pipe.
+fn are_fed<R: Threads + Wait + Copy + Drop + Send + 'static>(
+    rt: &R,
+    alloc: Global,
+    bytes: &[u8],
+    size: usize,
+) -> Result<bool, Fail>
+    requires { 0 < size }
+{
+    let (taken, end) = feed_through(rt, alloc, bytes, size)?;
+    Ok(end == PumpEnd::AtEnd && taken.as_slice() == bytes)
 }
 
 #[test]
@@ -84,12 +175,8 @@ fn pumps_in_threads_of_their_own(rt: HostRuntime) -> Result<(), Fail> {
     let alloc = rt.alloc();
     for (size, count) in [(1usize, 300usize), (7, 3_000), (4_096, 30_000)] {
         let bytes = counted(alloc, count)?;
-        let (taken, end, _) = relay(&rt, alloc, Told::new(bytes.as_slice(), alloc)?, size)?;
-        assert_eq!(rt; end, PumpEnd::AtEnd);
-        assert_eq!(rt; taken.as_slice(), bytes.as_slice());
-        let (taken, end) = feed_through(&rt, alloc, bytes.as_slice(), size)?;
-        assert_eq!(rt; end, PumpEnd::AtEnd);
-        assert_eq!(rt; taken.as_slice(), bytes.as_slice());
+        assert!(rt; are_relayed(&rt, alloc, bytes.as_slice(), size)?, "{size}");
+        assert!(rt; are_fed(&rt, alloc, bytes.as_slice(), size)?, "{size}");
     }
     Ok(())
 }

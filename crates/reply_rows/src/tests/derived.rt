@@ -1,6 +1,6 @@
 // What outputs derive, whole and cut at each place.
-use super::cells::{Cells, count_of, is_row};
-use cgi_header::{HdrStep, read_header};
+use super::cells::{Cells, count_of, wrong_row};
+use cgi_header::{CgiHead, HdrStep, read_header};
 use host_base::{Cause, NoMemory, Reply, ScriptKind};
 use reply_kinds::{Derived, ReplyKind, derive, kind_of, reply_of};
 use std::alloc::Global;
@@ -107,7 +107,7 @@ fn is_bad_so(
     alloc: Global,
     derived: &Result<Derived, NoMemory>,
     row: &Cells,
-) -> Result<bool, Fail> {
+) -> Result<bool, NoMemory> {
     match derived {
         Ok(Derived::Bad(given)) => Ok(row.is(1, format!(in alloc; "{given:?}")?.as_str())),
         _ => Ok(false),
@@ -171,61 +171,42 @@ fn replies_however_it_ends(alloc: Global, row: &Cells) -> Result<bool, NoMemory>
     Ok(true)
 }
 
-// Whether the header has the kind of its row, and gives the row's reply with a body.
-fn has_kind(alloc: Global, row: &Cells) -> Result<bool, Fail> {
-    match read_header(alloc, row.at(0))? {
-        HdrStep::Whole { head, .. } => match kind_of(&head) {
-            Ok(kind) if kind != ReplyKind::LocalRedirect => {
-                let named = row.is(1, format!(in alloc; "{kind:?}")?.as_str());
-                Ok(named && is_reply(&reply_of(alloc, &head, kind, BODY)?, row, BODY))
-            }
-            _ => Ok(false),
-        },
+fn is_kind(alloc: Global, kind: ReplyKind, row: &Cells) -> Result<bool, NoMemory> {
+    Ok(row.is(1, format!(in alloc; "{kind:?}")?.as_str()))
+}
+
+fn is_of_kind(alloc: Global, head: &CgiHead, row: &Cells) -> Result<bool, NoMemory> {
+    match kind_of(head) {
+        Ok(kind) if kind != ReplyKind::LocalRedirect => {
+            let reply = reply_of(alloc, head, kind, BODY)?;
+            Ok(is_reply(&reply, row, BODY) && is_kind(alloc, kind, row)?)
+        }
         _ => Ok(false),
     }
 }
 
-fn is_reply_row(alloc: Global, row: &str) -> Result<bool, NoMemory> {
-    let cells = Cells::new(alloc, row)?;
-    replies_however_it_ends(alloc, &cells)
-}
-
-// The first row of its table that is wrong; nothing where none is.
-fn wrong_reply_row(alloc: Global) -> Result<&'static str, NoMemory> {
-    for row in REPLIES.lines() {
-        if is_row(row) && !is_reply_row(alloc, row)? {
-            return Ok(row);
-        }
+// Whether the header has the kind of its row, and gives the row's reply with a body.
+fn has_kind(alloc: Global, row: &Cells) -> Result<bool, NoMemory> {
+    match read_header(alloc, row.at(0))? {
+        HdrStep::Whole { head, .. } => is_of_kind(alloc, &head, row),
+        _ => Ok(false),
     }
-    Ok("")
 }
 
 #[test]
 fn replies(rt: HostRuntime) -> Result<(), Fail> {
     assert_eq!(rt; count_of(REPLIES), 34);
-    assert_eq!(rt; wrong_reply_row(rt.alloc())?, "");
+    assert_eq!(rt;
+        wrong_row(rt.alloc(), REPLIES, replies_however_it_ends)?,
+        ""
+    );
     Ok(())
-}
-
-fn is_kind_row(alloc: Global, row: &str) -> Result<bool, Fail> {
-    let cells = Cells::new(alloc, row)?;
-    has_kind(alloc, &cells)
-}
-
-// The first row of its table that is wrong; nothing where none is.
-fn wrong_kind_row(alloc: Global) -> Result<&'static str, Fail> {
-    for row in REPLIES.lines() {
-        if is_row(row) && !is_kind_row(alloc, row)? {
-            return Ok(row);
-        }
-    }
-    Ok("")
 }
 
 #[test]
 fn kinds(rt: HostRuntime) -> Result<(), Fail> {
     assert_eq!(rt; count_of(REPLIES), 34);
-    assert_eq!(rt; wrong_kind_row(rt.alloc())?, "");
+    assert_eq!(rt; wrong_row(rt.alloc(), REPLIES, has_kind)?, "");
     Ok(())
 }
 
@@ -235,58 +216,29 @@ fn derived_of(alloc: Global, row: &Cells, body: &[u8]) -> Result<Derived, NoMemo
     derive(alloc, ScriptKind::Cgi, output.as_slice())
 }
 
-fn hops(alloc: Global, row: &Cells) -> bool {
-    is_hop(&derived_of(alloc, row, b""), row) && is_hop(&derived_of(alloc, row, BODY), row)
+fn hops(alloc: Global, row: &Cells) -> Result<bool, NoMemory> {
+    Ok(is_hop(&derived_of(alloc, row, b""), row) && is_hop(&derived_of(alloc, row, BODY), row))
 }
 
-fn is_refused(alloc: Global, row: &Cells) -> Result<bool, Fail> {
-    Ok(
-        is_bad_so(alloc, &derived_of(alloc, row, b""), row)?
-            && is_bad_so(alloc, &derived_of(alloc, row, BODY), row)?,
-    )
+fn is_refused_with(alloc: Global, row: &Cells, body: &[u8]) -> Result<bool, NoMemory> {
+    is_bad_so(alloc, &derived_of(alloc, row, body), row)
 }
 
-fn is_hop_row(alloc: Global, row: &str) -> Result<bool, NoMemory> {
-    let cells = Cells::new(alloc, row)?;
-    Ok(hops(alloc, &cells))
-}
-
-// The first row of its table that is wrong; nothing where none is.
-fn wrong_hop_row(alloc: Global) -> Result<&'static str, NoMemory> {
-    for row in HOPS.lines() {
-        if is_row(row) && !is_hop_row(alloc, row)? {
-            return Ok(row);
-        }
-    }
-    Ok("")
+fn is_refused(alloc: Global, row: &Cells) -> Result<bool, NoMemory> {
+    Ok(is_refused_with(alloc, row, b"")? && is_refused_with(alloc, row, BODY)?)
 }
 
 #[test]
 fn local_redirects(rt: HostRuntime) -> Result<(), Fail> {
     assert_eq!(rt; count_of(HOPS), 6);
-    assert_eq!(rt; wrong_hop_row(rt.alloc())?, "");
+    assert_eq!(rt; wrong_row(rt.alloc(), HOPS, hops)?, "");
     Ok(())
-}
-
-fn is_refused_row(alloc: Global, row: &str) -> Result<bool, Fail> {
-    let cells = Cells::new(alloc, row)?;
-    is_refused(alloc, &cells)
-}
-
-// The first row of its table that is wrong; nothing where none is.
-fn wrong_refused_row(alloc: Global) -> Result<&'static str, Fail> {
-    for row in REFUSED.lines() {
-        if is_row(row) && !is_refused_row(alloc, row)? {
-            return Ok(row);
-        }
-    }
-    Ok("")
 }
 
 #[test]
 fn refusals(rt: HostRuntime) -> Result<(), Fail> {
     assert_eq!(rt; count_of(REFUSED), 19);
-    assert_eq!(rt; wrong_refused_row(rt.alloc())?, "");
+    assert_eq!(rt; wrong_row(rt.alloc(), REFUSED, is_refused)?, "");
     Ok(())
 }
 

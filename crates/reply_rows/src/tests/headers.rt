@@ -1,5 +1,5 @@
 // What headers are read as, whole and cut at each place.
-use super::cells::{Cells, count_of, is_row};
+use super::cells::{Cells, count_of, wrong_row};
 use cgi_header::{CgiHead, Given, HdrStep, missing_cause, read_header};
 use host_base::{Bytes, Cause, NoMemory};
 use std::alloc::Global;
@@ -134,7 +134,11 @@ fn is_bad(step: &Result<HdrStep, NoMemory>, cause: Cause) -> bool {
     }
 }
 
-fn is_bad_so(alloc: Global, step: &Result<HdrStep, NoMemory>, row: &Cells) -> Result<bool, Fail> {
+fn is_bad_so(
+    alloc: Global,
+    step: &Result<HdrStep, NoMemory>,
+    row: &Cells,
+) -> Result<bool, NoMemory> {
     match step {
         Ok(HdrStep::Bad(given)) => Ok(row.is(1, format!(in alloc; "{given:?}")?.as_str())),
         _ => Ok(false),
@@ -172,7 +176,7 @@ fn is_read_however_cut(alloc: Global, row: &Cells, body: &[u8]) -> Result<bool, 
     Ok(true)
 }
 
-fn is_refused_however_cut(alloc: Global, row: &Cells, body: &[u8]) -> Result<bool, Fail> {
+fn is_refused_however_cut(alloc: Global, row: &Cells, body: &[u8]) -> Result<bool, NoMemory> {
     let output = output(alloc, row.at(0), body)?;
     for count in 0..output.len() + 1 {
         let step = read_header(alloc, &output.as_slice()[..count]);
@@ -193,58 +197,30 @@ fn is_read_with_any(alloc: Global, row: &Cells) -> Result<bool, NoMemory> {
     Ok(is_read_however_cut(alloc, row, b"")? && is_read_however_cut(alloc, row, b"Status: x\n\n")?)
 }
 
-fn is_header_row(alloc: Global, row: &str) -> Result<bool, NoMemory> {
-    let cells = Cells::new(alloc, row)?;
-    is_read_with_any(alloc, &cells)
-}
-
-// The first row of its table that is wrong; nothing where none is.
-fn wrong_header_row(alloc: Global) -> Result<&'static str, NoMemory> {
-    for row in HEADERS.lines() {
-        if is_row(row) && !is_header_row(alloc, row)? {
-            return Ok(row);
-        }
-    }
-    Ok("")
-}
-
 #[test]
 fn headers_are_read_however_they_are_cut(rt: HostRuntime) -> Result<(), Fail> {
     assert_eq!(rt; count_of(HEADERS), 26);
-    assert_eq!(rt; wrong_header_row(rt.alloc())?, "");
+    assert_eq!(rt; wrong_row(rt.alloc(), HEADERS, is_read_with_any)?, "");
     Ok(())
 }
 
-fn is_fault_row(alloc: Global, row: &str) -> Result<bool, Fail> {
-    let cells = Cells::new(alloc, row)?;
-    is_refused_however_cut(alloc, &cells, b"A: b\n\n")
-}
-
-// The first row of its table that is wrong; nothing where none is.
-fn wrong_fault_row(alloc: Global) -> Result<&'static str, Fail> {
-    for row in FAULTS.lines() {
-        if is_row(row) && !is_fault_row(alloc, row)? {
-            return Ok(row);
-        }
-    }
-    Ok("")
+// Whether the header is refused at each cut, with a field line behind it.
+fn is_fault(alloc: Global, row: &Cells) -> Result<bool, NoMemory> {
+    is_refused_however_cut(alloc, row, b"A: b\n\n")
 }
 
 #[test]
 fn the_first_fault_is_the_cause(rt: HostRuntime) -> Result<(), Fail> {
     assert_eq!(rt; count_of(FAULTS), 46);
-    assert_eq!(rt; wrong_fault_row(rt.alloc())?, "");
+    assert_eq!(rt; wrong_row(rt.alloc(), FAULTS, is_fault)?, "");
     Ok(())
 }
 
 // A field line and an empty one of so many bytes together, where there is room for them.
 fn long_header(alloc: Global, count: usize, end: &[u8]) -> Result<Vec<u8>, NoMemory> {
-    let mut header = Vec::from_slice(alloc, b"A:")?;
-    for _ in 0..count.saturating_sub(end.len().saturating_add(2)) {
-        header.push(b'a')?;
-    }
-    header.extend_from_slice(end)?;
-    Ok(header)
+    let len = count.saturating_sub(end.len().saturating_add(2));
+    let value = vec![in alloc; b'a'; len]?;
+    Ok([b"A:".as_slice(), value.as_slice(), end].concat(alloc)?)
 }
 
 fn is_whole_at(step: &Result<HdrStep, NoMemory>, count: usize) -> bool {

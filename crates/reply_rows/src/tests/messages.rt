@@ -1,5 +1,5 @@
 // Outputs and their messages, in whatever pieces they come.
-use super::cells::{Cells, count_of, is_row};
+use super::cells::{Cells, count_of, wrong_row};
 use host_base::{NoMemory, Text, Texts};
 use line_messages::{LineStep, Lines, input_line};
 use std::alloc::Global;
@@ -119,25 +119,10 @@ fn is_read_at_every_cut(alloc: Global, row: &Cells) -> Result<bool, NoMemory> {
     Ok(true)
 }
 
-fn is_output_row(alloc: Global, row: &str) -> Result<bool, NoMemory> {
-    let cells = Cells::new(alloc, row)?;
-    is_read_at_every_cut(alloc, &cells)
-}
-
-// The first row of its table that is wrong; nothing where none is.
-fn wrong_output_row(alloc: Global) -> Result<&'static str, NoMemory> {
-    for row in OUTPUTS.lines() {
-        if is_row(row) && !is_output_row(alloc, row)? {
-            return Ok(row);
-        }
-    }
-    Ok("")
-}
-
 #[test]
 fn outputs_are_read_at_every_cut(rt: HostRuntime) -> Result<(), Fail> {
     assert_eq!(rt; count_of(OUTPUTS), 26);
-    assert_eq!(rt; wrong_output_row(rt.alloc())?, "");
+    assert_eq!(rt; wrong_row(rt.alloc(), OUTPUTS, is_read_at_every_cut)?, "");
     Ok(())
 }
 

@@ -1,7 +1,7 @@
 // The host's own replies, the phrases, and replies whose text other programs know.
 ghost use Rattle.std.specs.Prelude.{length, ◌<◌};
 
-use super::cells::{Cells, count_of, is_row};
+use super::cells::{Cells, count_of, wrong_row};
 use host_base::{Bytes, Cause, Field, Fields, NoMemory, Reply};
 use reply_writer::{
     DATES_END, END_MARK, Shape, chunk_text, date_text, fault_reply, head_text, phrase, whole_text,
@@ -190,8 +190,8 @@ const SIZES: &str = r"
 65536 | 10000
 ";
 
-fn push(alloc: Global, fields: &mut Fields, name: &str, value: &str) -> Result<(), NoMemory> {
-    fields.push(Field {
+fn field(alloc: Global, name: &str, value: &str) -> Result<Field, NoMemory> {
+    Ok(Field {
         name: Bytes::from_slice(alloc, name.as_bytes())?,
         value: Bytes::from_slice(alloc, value.as_bytes())?,
     })
@@ -199,7 +199,7 @@ fn push(alloc: Global, fields: &mut Fields, name: &str, value: &str) -> Result<(
 
 fn reply(alloc: Global, status: u16, phrase: &[u8], body: &[u8]) -> Result<Reply, NoMemory> {
     let mut fields = Fields::new(alloc);
-    push(alloc, &mut fields, "Content-Type", "text/plain")?;
+    fields.push(field(alloc, "Content-Type", "text/plain")?)?;
     Ok(Reply {
         status,
         phrase: Bytes::from_slice(alloc, phrase)?,
@@ -208,20 +208,14 @@ fn reply(alloc: Global, status: u16, phrase: &[u8], body: &[u8]) -> Result<Reply
     })
 }
 
-// The fault's reply to another method than HEAD.
-fn to_get(alloc: Global, cause: Cause) -> Result<Bytes, NoMemory> {
+// The fault's reply to HEAD, where the connection closes, or to another method.
+fn fault_text(alloc: Global, cause: Cause, is_head: bool) -> Result<Bytes, NoMemory> {
     let fault = fault_reply(alloc, cause)?;
-    whole_text(alloc, &fault, false, false, None)
+    whole_text(alloc, &fault, is_head, is_head, None)
 }
 
-// .. and to HEAD, where the connection closes.
-fn to_head(alloc: Global, cause: Cause) -> Result<Bytes, NoMemory> {
-    let fault = fault_reply(alloc, cause)?;
-    whole_text(alloc, &fault, true, true, None)
-}
-
-fn gets(alloc: Global, cause: Cause, row: &Cells) -> Result<bool, Fail> {
-    let text = to_get(alloc, cause)?;
+fn gets(alloc: Global, cause: Cause, row: &Cells) -> Result<bool, NoMemory> {
+    let text = fault_text(alloc, cause, false)?;
     let want = format!(in alloc;
         "HTTP/1.1 {}\r\nContent-Type: text/plain\r\nContent-Length: {}\r\n\r\n{}\n",
         row.text(1),
@@ -231,8 +225,8 @@ fn gets(alloc: Global, cause: Cause, row: &Cells) -> Result<bool, Fail> {
     Ok(text.as_slice() == want.as_bytes())
 }
 
-fn heads(alloc: Global, cause: Cause, row: &Cells) -> Result<bool, Fail> {
-    let text = to_head(alloc, cause)?;
+fn heads(alloc: Global, cause: Cause, row: &Cells) -> Result<bool, NoMemory> {
+    let text = fault_text(alloc, cause, true)?;
     let want = format!(in alloc;
         "HTTP/1.1 {}\r\nContent-Type: text/plain\r\nConnection: close\r\n\r\n",
         row.text(1)
@@ -240,21 +234,21 @@ fn heads(alloc: Global, cause: Cause, row: &Cells) -> Result<bool, Fail> {
     Ok(text.as_slice() == want.as_bytes())
 }
 
-fn is_named(alloc: Global, cause: Cause, row: &Cells) -> Result<bool, Fail> {
+fn is_named(alloc: Global, cause: Cause, row: &Cells) -> Result<bool, NoMemory> {
     Ok(row.is(0, format!(in alloc; "{cause:?}")?.as_str()))
 }
 
-fn is_cause(alloc: Global, cause: Cause, row: &Cells) -> Result<bool, Fail> {
+fn is_cause(alloc: Global, cause: Cause, row: &Cells) -> Result<bool, NoMemory> {
     Ok(is_named(alloc, cause, row)? && gets(alloc, cause, row)? && heads(alloc, cause, row)?)
 }
 
-fn is_cause_row(alloc: Global, cause: Cause, row: &str) -> Result<bool, Fail> {
+fn is_cause_row(alloc: Global, cause: Cause, row: &str) -> Result<bool, NoMemory> {
     let cells = Cells::new(alloc, row)?;
     is_cause(alloc, cause, &cells)
 }
 
 // The first row that is not its cause's; nothing where none is.
-fn wrong_cause_row(alloc: Global, causes: &[Cause]) -> Result<&'static str, Fail> {
+fn wrong_cause_row(alloc: Global, causes: &[Cause]) -> Result<&'static str, NoMemory> {
     for (row, cause) in OF_CAUSES.trim().lines().zip(causes) {
         if !is_cause_row(alloc, *cause, row)? {
             return Ok(row);
@@ -270,19 +264,23 @@ fn causes(rt: HostRuntime) -> Result<(), Fail> {
     Ok(())
 }
 
+// Whether the reply to a WebSocket's client of another version is this, to HEAD or to another method.
+fn asks_to_upgrade(alloc: Global, is_head: bool, due: &[u8]) -> Result<bool, NoMemory> {
+    let fault = fault_reply(alloc, Cause::UpgradeNeeded)?;
+    let text = whole_text(alloc, &fault, is_head, false, None)?;
+    Ok(text.as_slice() == due)
+}
+
+const UPGRADE: &[u8] =
+    b"HTTP/1.1 426 Upgrade Required\r\nUpgrade: websocket\r\nConnection: Upgrade\r\nSec-WebSocket-Version: 13\r\nContent-Type: text/plain\r\nContent-Length: 30\r\n\r\nwebsocket version 13 required\n";
+
+const UPGRADE_HEAD: &[u8] =
+    b"HTTP/1.1 426 Upgrade Required\r\nUpgrade: websocket\r\nConnection: Upgrade\r\nSec-WebSocket-Version: 13\r\nContent-Type: text/plain\r\n\r\n";
+
 #[test]
 fn upgrade(rt: HostRuntime) -> Result<(), Fail> {
-    let fault = fault_reply(rt.alloc(), Cause::UpgradeNeeded)?;
-    let to_get = whole_text(rt.alloc(), &fault, false, false, None)?;
-    assert_eq!(rt;
-        to_get.as_slice(),
-        b"HTTP/1.1 426 Upgrade Required\r\nUpgrade: websocket\r\nConnection: Upgrade\r\nSec-WebSocket-Version: 13\r\nContent-Type: text/plain\r\nContent-Length: 30\r\n\r\nwebsocket version 13 required\n".as_slice()
-    );
-    let to_head = whole_text(rt.alloc(), &fault, true, false, None)?;
-    assert_eq!(rt;
-        to_head.as_slice(),
-        b"HTTP/1.1 426 Upgrade Required\r\nUpgrade: websocket\r\nConnection: Upgrade\r\nSec-WebSocket-Version: 13\r\nContent-Type: text/plain\r\n\r\n".as_slice()
-    );
+    assert!(rt; asks_to_upgrade(rt.alloc(), false, UPGRADE)?);
+    assert!(rt; asks_to_upgrade(rt.alloc(), true, UPGRADE_HEAD)?);
     Ok(())
 }
 
@@ -290,29 +288,14 @@ fn code_of(row: &Cells) -> u16 {
     u16::try_from(row.number(0)).unwrap_or(0)
 }
 
-fn is_phrase(row: &Cells) -> bool {
-    phrase(code_of(row)) == row.at(1)
-}
-
-fn is_phrase_row(alloc: Global, row: &str) -> Result<bool, NoMemory> {
-    let cells = Cells::new(alloc, row)?;
-    Ok(is_phrase(&cells))
-}
-
-// The first row of its table that is wrong; nothing where none is.
-fn wrong_phrase_row(alloc: Global) -> Result<&'static str, NoMemory> {
-    for row in PHRASES.lines() {
-        if is_row(row) && !is_phrase_row(alloc, row)? {
-            return Ok(row);
-        }
-    }
-    Ok("")
+fn is_phrase(_: Global, row: &Cells) -> Result<bool, NoMemory> {
+    Ok(phrase(code_of(row)) == row.at(1))
 }
 
 #[test]
 fn phrases(rt: HostRuntime) -> Result<(), Fail> {
     assert_eq!(rt; count_of(PHRASES), 47);
-    assert_eq!(rt; wrong_phrase_row(rt.alloc())?, "");
+    assert_eq!(rt; wrong_row(rt.alloc(), PHRASES, is_phrase)?, "");
     Ok(())
 }
 
@@ -322,82 +305,58 @@ fn is_spoken(alloc: Global, row: &Cells) -> Result<bool, NoMemory> {
     Ok(row.len() == 6 && text.as_slice() == row.at(5))
 }
 
-fn is_spoken_row(alloc: Global, row: &str) -> Result<bool, NoMemory> {
-    let cells = Cells::new(alloc, row)?;
-    is_spoken(alloc, &cells)
-}
-
-// The first row of its table that is wrong; nothing where none is.
-fn wrong_spoken_row(alloc: Global) -> Result<&'static str, NoMemory> {
-    for row in REPLIES.lines() {
-        if is_row(row) && !is_spoken_row(alloc, row)? {
-            return Ok(row);
-        }
-    }
-    Ok("")
-}
-
 #[test]
 fn replies(rt: HostRuntime) -> Result<(), Fail> {
     assert_eq!(rt; count_of(REPLIES), 8);
-    assert_eq!(rt; wrong_spoken_row(rt.alloc())?, "");
+    assert_eq!(rt; wrong_row(rt.alloc(), REPLIES, is_spoken)?, "");
     Ok(())
+}
+
+const SHAPES: [(Shape, &str); 4] = [
+    (Shape::Bare, ""),
+    (
+        Shape::Length(u64::MAX),
+        "Content-Length: 18446744073709551615\r\n",
+    ),
+    (Shape::Chunked, "Transfer-Encoding: chunked\r\n"),
+    (Shape::ToClose, ""),
+];
+
+// Whether a head has this field for its shape.
+fn is_shaped(alloc: Global, shape: Shape, framing: &str) -> Result<bool, NoMemory> {
+    let spoken = reply(alloc, 200, b"OK", b"hi\n")?;
+    let head = head_text(alloc, &spoken, shape, true, None)?;
+    let want = format!(in alloc;
+        "HTTP/1.1 200 OK\r\nContent-Type: text/plain\r\n{framing}Connection: close\r\n\r\n"
+    )?;
+    Ok(head.as_slice() == want.as_bytes())
 }
 
 #[test]
 fn shapes(rt: HostRuntime) -> Result<(), Fail> {
-    let spoken = reply(rt.alloc(), 200, b"OK", b"hi\n")?;
-    let table: [(Shape, &str); 4] = [
-        (Shape::Bare, ""),
-        (
-            Shape::Length(u64::MAX),
-            "Content-Length: 18446744073709551615\r\n",
-        ),
-        (Shape::Chunked, "Transfer-Encoding: chunked\r\n"),
-        (Shape::ToClose, ""),
-    ];
-    for (shape, framing) in table.iter() {
-        let head = head_text(rt.alloc(), &spoken, *shape, true, None)?;
-        let want = format!(in rt.alloc();
-            "HTTP/1.1 200 OK\r\nContent-Type: text/plain\r\n{framing}Connection: close\r\n\r\n"
-        )?;
-        assert_eq!(rt; head.as_slice(), want.as_bytes(), "{framing}");
+    for (shape, framing) in SHAPES {
+        assert!(rt; is_shaped(rt.alloc(), shape, framing)?, "{framing}");
     }
     Ok(())
 }
 
-fn is_date(row: &Cells) -> bool {
+fn is_date(_: Global, row: &Cells) -> Result<bool, NoMemory> {
     let secs = row.number(0);
-    secs < DATES_END && date_text(secs).text.as_slice() == row.at(1)
-}
-
-fn is_date_row(alloc: Global, row: &str) -> Result<bool, NoMemory> {
-    let cells = Cells::new(alloc, row)?;
-    Ok(is_date(&cells))
-}
-
-// The first row of its table that is wrong; nothing where none is.
-fn wrong_date_row(alloc: Global) -> Result<&'static str, NoMemory> {
-    for row in DATES.lines() {
-        if is_row(row) && !is_date_row(alloc, row)? {
-            return Ok(row);
-        }
-    }
-    Ok("")
+    Ok(secs < DATES_END && date_text(secs).text.as_slice() == row.at(1))
 }
 
 #[test]
 fn dates(rt: HostRuntime) -> Result<(), Fail> {
     assert_eq!(rt; DATES_END, 253_402_300_800);
     assert_eq!(rt; count_of(DATES), 6);
-    assert_eq!(rt; wrong_date_row(rt.alloc())?, "");
+    assert_eq!(rt; wrong_row(rt.alloc(), DATES, is_date)?, "");
     Ok(())
 }
 
 // A reply with a field of the script's own, at the second 784111777.
 fn text_with(alloc: Global, own: &str) -> Result<Bytes, NoMemory> {
     let mut spoken = reply(alloc, 200, b"OK", b"hi\n")?;
-    push(alloc, &mut spoken.fields, name_of(own), "x")?;
+    spoken.fields.push(field(alloc, name_of(own), "x")?)?;
     whole_text(alloc, &spoken, false, false, Some(&date_text(784_111_777)))
 }
 
@@ -408,7 +367,7 @@ fn name_of(own: &str) -> &str {
     }
 }
 
-fn is_dated(alloc: Global, row: &Cells) -> Result<bool, Fail> {
+fn is_dated(alloc: Global, row: &Cells) -> Result<bool, NoMemory> {
     let text = text_with(alloc, row.text(0))?;
     let want = format!(in alloc;
         "HTTP/1.1 200 OK\r\nContent-Type: text/plain\r\n{}Content-Length: 3\r\n\r\nhi\n",
@@ -417,42 +376,32 @@ fn is_dated(alloc: Global, row: &Cells) -> Result<bool, Fail> {
     Ok(text.as_slice() == want.as_bytes())
 }
 
-fn is_dated_row(alloc: Global, row: &str) -> Result<bool, Fail> {
-    let cells = Cells::new(alloc, row)?;
-    is_dated(alloc, &cells)
-}
-
-// The first row of its table that is wrong; nothing where none is.
-fn wrong_dated_row(alloc: Global) -> Result<&'static str, Fail> {
-    for row in DATED.lines() {
-        if is_row(row) && !is_dated_row(alloc, row)? {
-            return Ok(row);
-        }
-    }
-    Ok("")
-}
-
 #[test]
 fn dated(rt: HostRuntime) -> Result<(), Fail> {
     assert_eq!(rt; count_of(DATED), 6);
-    assert_eq!(rt; wrong_dated_row(rt.alloc())?, "");
+    assert_eq!(rt; wrong_row(rt.alloc(), DATED, is_dated)?, "");
     Ok(())
+}
+
+const DATED_204: &[u8] =
+    b"HTTP/1.1 204 No Content\r\nContent-Type: text/plain\r\nDate: Sun, 06 Nov 1994 08:49:37 GMT\r\n\r\n";
+
+const DATED_504: &[u8] =
+    b"HTTP/1.1 504 Gateway Timeout\r\nContent-Type: text/plain\r\nDate: Sun, 06 Nov 1994 08:49:37 GMT\r\nContent-Length: 21\r\nConnection: close\r\n\r\nscript took too long\n";
+
+// Whether a reply at the second 784111777 is written so.
+fn is_dated_text(alloc: Global, reply: &Reply, close: bool, due: &[u8]) -> Result<bool, NoMemory> {
+    let text = whole_text(alloc, reply, false, close, Some(&date_text(784_111_777)))?;
+    Ok(text.as_slice() == due)
 }
 
 // The host's own replies have a Date too.
 #[test]
 fn dated_without_a_field_of_a_script(rt: HostRuntime) -> Result<(), Fail> {
-    let date = date_text(784_111_777);
     let spoken = reply(rt.alloc(), 204, b"No Content", b"")?;
-    assert_eq!(rt;
-        whole_text(rt.alloc(), &spoken, false, false, Some(&date))?.as_slice(),
-        b"HTTP/1.1 204 No Content\r\nContent-Type: text/plain\r\nDate: Sun, 06 Nov 1994 08:49:37 GMT\r\n\r\n".as_slice()
-    );
+    assert!(rt; is_dated_text(rt.alloc(), &spoken, false, DATED_204)?);
     let late = fault_reply(rt.alloc(), Cause::RunTime)?;
-    assert_eq!(rt;
-        whole_text(rt.alloc(), &late, false, true, Some(&date))?.as_slice(),
-        b"HTTP/1.1 504 Gateway Timeout\r\nContent-Type: text/plain\r\nDate: Sun, 06 Nov 1994 08:49:37 GMT\r\nContent-Length: 21\r\nConnection: close\r\n\r\nscript took too long\n".as_slice()
-    );
+    assert!(rt; is_dated_text(rt.alloc(), &late, true, DATED_504)?);
     Ok(())
 }
 
@@ -460,10 +409,8 @@ fn dated_without_a_field_of_a_script(rt: HostRuntime) -> Result<(), Fail> {
 fn is_chunk(alloc: Global, piece: &[u8], digits: &[u8]) -> Result<bool, NoMemory>
     requires { 0 < length piece.now }
 {
-    let mut want = Bytes::from_slice(alloc, digits)?;
-    want.extend_from_slice(b"\r\n")?;
-    want.extend_from_slice(piece)?;
-    want.extend_from_slice(b"\r\n")?;
+    let end = b"\r\n".as_slice();
+    let want = [digits, end, piece, end].concat(alloc)?;
     let text = chunk_text(alloc, piece)?;
     Ok(text.as_slice() == want.as_slice())
 }
@@ -474,25 +421,10 @@ fn is_size(alloc: Global, row: &Cells) -> Result<bool, NoMemory> {
     Ok(!piece.is_empty() && is_chunk(alloc, piece, row.at(1))?)
 }
 
-fn is_size_row(alloc: Global, row: &str) -> Result<bool, NoMemory> {
-    let cells = Cells::new(alloc, row)?;
-    is_size(alloc, &cells)
-}
-
-// The first row of its table that is wrong; nothing where none is.
-fn wrong_size_row(alloc: Global) -> Result<&'static str, NoMemory> {
-    for row in SIZES.lines() {
-        if is_row(row) && !is_size_row(alloc, row)? {
-            return Ok(row);
-        }
-    }
-    Ok("")
-}
-
 #[test]
 fn chunks(rt: HostRuntime) -> Result<(), Fail> {
     assert_eq!(rt; count_of(SIZES), 10);
-    assert_eq!(rt; wrong_size_row(rt.alloc())?, "");
+    assert_eq!(rt; wrong_row(rt.alloc(), SIZES, is_size)?, "");
     assert_eq!(rt; END_MARK, b"0\r\n\r\n".as_slice());
     Ok(())
 }

@@ -1,7 +1,7 @@
 // What streams write. Each row is told as it stands; `cuts` tells outputs cut at each place with ticks.
 ghost use Rattle.reply_writer.specs.WholeRules.{IsStamp};
 
-use super::cells::{Cells, count_of, is_row};
+use super::cells::{Cells, count_of, wrong_row};
 use host_base::{Bytes, NoMemory, ScriptKind, Version};
 use reply_stream::{Asked, Last, Stream};
 use std::alloc::Global;
@@ -119,7 +119,7 @@ fn stamp_of(dated: bool) -> Option<u64>
 }
 
 // Whether it comes to what two cells say, and they are the last ones.
-fn is_ended(alloc: Global, last: &Last, row: &Cells, place: usize) -> Result<bool, Fail> {
+fn is_ended(alloc: Global, last: &Last, row: &Cells, place: usize) -> Result<bool, NoMemory> {
     let text = place.saturating_add(1);
     let right = match last {
         Last::Written(bytes) => row.is(place, "rest") && bytes.as_slice() == row.at(text),
@@ -174,7 +174,7 @@ impl Telling {
 }
 
 // Whether each thing that is told is answered as its row says, and the end too.
-fn is_answered(alloc: Global, row: &Cells) -> Result<bool, Fail> {
+fn is_answered(alloc: Global, row: &Cells) -> Result<bool, NoMemory> {
     let mut telling = Telling {
         stream: Stream::new(alloc, asked_of(row)),
         close: row.is_yes(1),
@@ -196,24 +196,9 @@ fn is_answered(alloc: Global, row: &Cells) -> Result<bool, Fail> {
     is_ended(alloc, &last, row, place)
 }
 
-fn is_stream_row(alloc: Global, row: &str) -> Result<bool, Fail> {
-    let cells = Cells::new(alloc, row)?;
-    is_answered(alloc, &cells)
-}
-
-// The first row of its table that is wrong; nothing where none is.
-fn wrong_stream_row(alloc: Global) -> Result<&'static str, Fail> {
-    for row in ROWS.lines() {
-        if is_row(row) && !is_stream_row(alloc, row)? {
-            return Ok(row);
-        }
-    }
-    Ok("")
-}
-
 #[test]
 fn rows(rt: HostRuntime) -> Result<(), Fail> {
     assert_eq!(rt; count_of(ROWS), 34);
-    assert_eq!(rt; wrong_stream_row(rt.alloc())?, "");
+    assert_eq!(rt; wrong_row(rt.alloc(), ROWS, is_answered)?, "");
     Ok(())
 }

@@ -3,8 +3,8 @@
 use host_base::{Cause, NoMemory};
 use std::alloc::Global;
 
-/// Whether a line of a table is a row.
-pub fn is_row(line: &str) -> bool {
+// Whether a line of a table is a row.
+fn is_row(line: &str) -> bool {
     !line.is_empty() && !line.starts_with("//")
 }
 
@@ -22,8 +22,8 @@ pub fn count_of(table: &str) -> usize {
 // The value of a digit of base 16; 255 for another byte.
 fn digit(byte: u8) -> u8 {
     match byte {
-        b'0'..=b'9' => byte - b'0',
-        b'a'..=b'f' => byte - b'a' + 10,
+        b'0'..=b'9' => byte.wrapping_sub(b'0'),
+        b'a'..=b'f' => byte.wrapping_sub(b'a').wrapping_add(10),
         _ => 255,
     }
 }
@@ -80,7 +80,7 @@ pub struct Cells {
 }
 
 impl Cells {
-    pub fn new(alloc: Global, row: &str) -> Result<Self, NoMemory> {
+    fn new(alloc: Global, row: &str) -> Result<Self, NoMemory> {
         let mut all = Vec::new(alloc);
         for text in row.split('|') {
             all.push(cell_of(alloc, text.trim())?)?;
@@ -145,4 +145,20 @@ impl Cells {
             _ => Cause::NoOutput,
         })
     }
+}
+
+/// The first row of a table whose cells are not right; nothing where all are.
+pub fn wrong_row<F: Fn(Global, &Cells) -> Result<bool, NoMemory>>(
+    alloc: Global,
+    table: &'static str,
+    is_right: F,
+) -> Result<&'static str, NoMemory>
+    requires { F.IsAlwaysCallable is_right }
+{
+    for row in table.lines() {
+        if is_row(row) && !is_right(alloc, &Cells::new(alloc, row)?)? {
+            return Ok(row);
+        }
+    }
+    Ok("")
 }

@@ -1,6 +1,6 @@
 // What bodies in chunks are read as, whole, byte by byte and cut in two at each place, and how heads
 // delimit their bodies.
-use super::cells::{Cells, count_of, is_row};
+use super::cells::{Cells, count_of, wrong_row};
 use body_framing::{ChunkStep, Chunks, framing_of};
 use host_base::{Bytes, Cause, Field, Fields, Framing, Head, Limits, NoMemory, Version};
 use std::alloc::Global;
@@ -88,11 +88,12 @@ const LONG_BODIES: &str = r"
 // Whether so many bytes have the answer that is due: in all pieces so far, of which `before` came
 // before the last one.
 fn is_due(step: ChunkStep, count: usize, before: usize, end: usize, cause: Option<Cause>) -> bool {
-    match (step, cause) {
-        (ChunkStep::More, _) => count < end,
-        (ChunkStep::End { used }, None) => count >= end && used == end.saturating_sub(before),
-        (ChunkStep::Bad(found), Some(due)) => count >= end && found == due,
-        _ => false,
+    match step {
+        ChunkStep::More => count < end,
+        ChunkStep::End { used } => {
+            count >= end && cause.is_none() && used == end.saturating_sub(before)
+        }
+        ChunkStep::Bad(found) => count >= end && cause == Some(found),
     }
 }
 
@@ -147,27 +148,20 @@ fn is_body(alloc: Global, limit: u64, row: &Cells) -> Result<bool, NoMemory> {
     is_read_however_cut(alloc, limit, row.at(0), due, Some(row.at(3)))
 }
 
-fn is_body_row(alloc: Global, limit: u64, row: &str) -> Result<bool, NoMemory> {
-    let cells = Cells::new(alloc, row)?;
-    is_body(alloc, limit, &cells)
+fn is_short_body(alloc: Global, row: &Cells) -> Result<bool, NoMemory> {
+    is_body(alloc, 5, row)
 }
 
-// The first row of a table that is not read so, with at most `limit` bytes of data; nothing where none is.
-fn wrong_body(alloc: Global, limit: u64, table: &'static str) -> Result<&'static str, NoMemory> {
-    for row in table.lines() {
-        if is_row(row) && !is_body_row(alloc, limit, row)? {
-            return Ok(row);
-        }
-    }
-    Ok("")
+fn is_lettered_body(alloc: Global, row: &Cells) -> Result<bool, NoMemory> {
+    is_body(alloc, 31, row)
 }
 
 #[test]
 fn bodies_however_they_are_cut(rt: HostRuntime) -> Result<(), Fail> {
     assert_eq!(rt; count_of(BODIES), 53);
-    assert_eq!(rt; wrong_body(rt.alloc(), 5, BODIES)?, "");
+    assert_eq!(rt; wrong_row(rt.alloc(), BODIES, is_short_body)?, "");
     assert_eq!(rt; count_of(LETTERED), 8);
-    assert_eq!(rt; wrong_body(rt.alloc(), 31, LETTERED)?, "");
+    assert_eq!(rt; wrong_row(rt.alloc(), LETTERED, is_lettered_body)?, "");
     Ok(())
 }
 
@@ -192,25 +186,10 @@ fn is_long_body(alloc: Global, row: &Cells) -> Result<bool, NoMemory> {
     is_read_however_cut(alloc, 5, text.as_slice(), due, None)
 }
 
-fn is_long_body_row(alloc: Global, row: &str) -> Result<bool, NoMemory> {
-    let cells = Cells::new(alloc, row)?;
-    is_long_body(alloc, &cells)
-}
-
-// The first row of its table that is wrong; nothing where none is.
-fn wrong_long_body_row(alloc: Global) -> Result<&'static str, NoMemory> {
-    for row in LONG_BODIES.lines() {
-        if is_row(row) && !is_long_body_row(alloc, row)? {
-            return Ok(row);
-        }
-    }
-    Ok("")
-}
-
 #[test]
 fn the_limits_edges(rt: HostRuntime) -> Result<(), Fail> {
     assert_eq!(rt; count_of(LONG_BODIES), 5);
-    assert_eq!(rt; wrong_long_body_row(rt.alloc())?, "");
+    assert_eq!(rt; wrong_row(rt.alloc(), LONG_BODIES, is_long_body)?, "");
     Ok(())
 }
 
@@ -256,20 +235,29 @@ BadFraming | Content-Length | 3 | Transfer-Encoding | chunked
 BadFraming | Content-Length | x | Transfer-Encoding | gzip
 ";
 
-fn head_of(alloc: Global, version: Version, row: &Cells) -> Result<Head, NoMemory> {
+fn field_of(alloc: Global, name: &[u8], value: &[u8]) -> Result<Field, NoMemory> {
+    Ok(Field {
+        name: Bytes::from_slice(alloc, name)?,
+        value: Bytes::from_slice(alloc, value)?,
+    })
+}
+
+fn fields_of(alloc: Global, row: &Cells) -> Result<Fields, NoMemory> {
     let mut fields = Fields::new(alloc);
     for line in row.from(1).chunks(2) {
         if let [name, value] = line {
-            let name = Bytes::from_slice(alloc, name.as_slice())?;
-            let value = Bytes::from_slice(alloc, value.as_slice())?;
-            fields.push(Field { name, value })?;
+            fields.push(field_of(alloc, name.as_slice(), value.as_slice())?)?;
         }
     }
+    Ok(fields)
+}
+
+fn head_of(alloc: Global, version: Version, row: &Cells) -> Result<Head, NoMemory> {
     Ok(Head {
         method: Bytes::from_slice(alloc, b"POST")?,
         target: Bytes::from_slice(alloc, b"/")?,
         version,
-        fields,
+        fields: fields_of(alloc, row)?,
     })
 }
 
@@ -284,12 +272,14 @@ fn framing_due(row: &Cells) -> Result<Framing, Cause> {
     }
 }
 
+fn is_coding(name: &[u8]) -> bool {
+    name.eq_ignore_ascii_case(b"Transfer-Encoding")
+}
+
 fn is_coded(row: &Cells) -> bool {
-    for line in row.from(1).chunks(2) {
-        if let [name, ..] = line {
-            if name.as_slice().eq_ignore_ascii_case(b"Transfer-Encoding") {
-                return true;
-            }
+    for name in row.from(1).iter().step_by(2) {
+        if is_coding(name.as_slice()) {
+            return true;
         }
     }
     false
@@ -312,24 +302,9 @@ fn is_framed_in_both(alloc: Global, row: &Cells) -> Result<bool, NoMemory> {
     Ok(is_framed(alloc, Version::V10, row)? && is_framed(alloc, Version::V11, row)?)
 }
 
-fn is_framing_row(alloc: Global, row: &str) -> Result<bool, NoMemory> {
-    let cells = Cells::new(alloc, row)?;
-    is_framed_in_both(alloc, &cells)
-}
-
-// The first row of its table that is wrong; nothing where none is.
-fn wrong_framing_row(alloc: Global) -> Result<&'static str, NoMemory> {
-    for row in FRAMINGS.lines() {
-        if is_row(row) && !is_framing_row(alloc, row)? {
-            return Ok(row);
-        }
-    }
-    Ok("")
-}
-
 #[test]
 fn how_heads_delimit_their_bodies(rt: HostRuntime) -> Result<(), Fail> {
     assert_eq!(rt; count_of(FRAMINGS), 38);
-    assert_eq!(rt; wrong_framing_row(rt.alloc())?, "");
+    assert_eq!(rt; wrong_row(rt.alloc(), FRAMINGS, is_framed_in_both)?, "");
     Ok(())
 }

@@ -1,5 +1,5 @@
 // What heads are read as: whole, byte by byte, and cut in two at each place.
-use super::cells::{Cells, count_of, is_row};
+use super::cells::{Cells, count_of, wrong_row};
 use head_lines::Search;
 use head_reader::{HeadStep, read_head, read_head_from};
 use host_base::{Cause, Limits, NoMemory, Version};
@@ -72,11 +72,10 @@ G | a | 65 | \x20/ HTTP/3.0\r\n\r\n | 81 | BadHead
 ";
 
 fn least_limits() -> Limits {
-    Limits {
-        head: 1024,
-        target: 64,
-        ..Limits::default()
-    }
+    let mut limits = Limits::default();
+    limits.head = 1024;
+    limits.target = 64;
+    limits
 }
 
 fn repeated(
@@ -150,26 +149,14 @@ fn is_right_however_cut(
     Ok(is_right_by_bytes(alloc, text, end, cause)? && is_right_in_two(alloc, text, end, cause)?)
 }
 
-fn is_head_row(alloc: Global, row: &str) -> Result<bool, NoMemory> {
-    let cells = Cells::new(alloc, row)?;
-    let (end, cause) = (cells.size(1), cells.cause(2));
-    is_right_however_cut(alloc, cells.at(0), end, cause)
-}
-
-// The first row of its table that is wrong; nothing where none is.
-fn wrong_head_row(alloc: Global) -> Result<&'static str, NoMemory> {
-    for row in HEADS.lines() {
-        if is_row(row) && !is_head_row(alloc, row)? {
-            return Ok(row);
-        }
-    }
-    Ok("")
+fn is_head(alloc: Global, row: &Cells) -> Result<bool, NoMemory> {
+    is_right_however_cut(alloc, row.at(0), row.size(1), row.cause(2))
 }
 
 #[test]
 fn heads_and_causes_however_they_are_cut(rt: HostRuntime) -> Result<(), Fail> {
     assert_eq!(rt; count_of(HEADS), 36);
-    assert_eq!(rt; wrong_head_row(rt.alloc())?, "");
+    assert_eq!(rt; wrong_row(rt.alloc(), HEADS, is_head)?, "");
     Ok(())
 }
 
@@ -179,25 +166,10 @@ fn is_long_head(alloc: Global, row: &Cells) -> Result<bool, NoMemory> {
     is_right_however_cut(alloc, text.as_slice(), row.size(4), row.cause(5))
 }
 
-fn is_long_head_row(alloc: Global, row: &str) -> Result<bool, NoMemory> {
-    let cells = Cells::new(alloc, row)?;
-    is_long_head(alloc, &cells)
-}
-
-// The first row of its table that is wrong; nothing where none is.
-fn wrong_long_head_row(alloc: Global) -> Result<&'static str, NoMemory> {
-    for row in LONG_HEADS.lines() {
-        if is_row(row) && !is_long_head_row(alloc, row)? {
-            return Ok(row);
-        }
-    }
-    Ok("")
-}
-
 #[test]
 fn the_limits_edges_however_they_are_cut(rt: HostRuntime) -> Result<(), Fail> {
     assert_eq!(rt; count_of(LONG_HEADS), 20);
-    assert_eq!(rt; wrong_long_head_row(rt.alloc())?, "");
+    assert_eq!(rt; wrong_row(rt.alloc(), LONG_HEADS, is_long_head)?, "");
     Ok(())
 }
 

@@ -72,12 +72,20 @@ fn bytes_or_none(alloc: Global, word: &str) -> Result<Option<Bytes>, NoMemory> {
     Ok(Some(Bytes::from_slice(alloc, value.as_bytes())?))
 }
 
+// How many bytes stand before the first `=`.
+fn name_len(line: &[u8]) -> usize {
+    let mut len: usize = 0;
+    for byte in line {
+        if *byte == b'=' {
+            return len;
+        }
+        len = len.saturating_add(1);
+    }
+    len
+}
+
 fn field(alloc: Global, line: &[u8]) -> Result<Field, NoMemory> {
-    let at = line
-        .iter()
-        .position(|byte| *byte == b'=')
-        .unwrap_or(line.len());
-    let (name, value) = line.split_at(at);
+    let (name, value) = line.split_at(name_len(line).min(line.len()));
     Ok(Field {
         name: Bytes::from_slice(alloc, name)?,
         value: Bytes::from_slice(alloc, value.get(1..).unwrap_or(b""))?,
@@ -180,7 +188,7 @@ fn asked(alloc: Global, request: &Request, info: &str) -> Result<String, NoMemor
     let mapped = mapped(alloc, "/cgi-bin/hello", info)?;
     let peer = Peer(Text::copy_of(alloc, "192.0.2.1")?);
     if !has_texts(request) || !names_script(&site, &mapped) {
-        return String::from_str(alloc, "no texts").map_err(NoMemory::from);
+        return Ok(String::from_str(alloc, "no texts")?);
     }
     let env = environment(alloc, &site, &peer, request, &mapped)?;
     shown(alloc, &env)
@@ -237,64 +245,80 @@ SERVER_PROTOCOL=HTTP/1.0
 SERVER_SOFTWARE=cgihost/1
 ";
 
+// Whether a request without query and host, in HTTP/1.0, has the few variables.
+fn has_few(alloc: Global, line: &str) -> Result<bool, NoMemory> {
+    let request = request(alloc, line, b"", Framing::Empty)?;
+    let given = asked(alloc, &request, "")?;
+    Ok(given.as_str() == FEW_VARIABLES)
+}
+
 #[test]
 fn few_variables(rt: HostRuntime) -> Result<(), NoMemory> {
-    for line in ["GET - - 1.0", "GET _ - 1.0"] {
-        let request = request(rt.alloc(), line, b"", Framing::Empty)?;
-        let given = asked(rt.alloc(), &request, "")?;
-        assert!(&rt; given.as_str() == FEW_VARIABLES, "{line}");
-    }
+    assert!(&rt; has_few(rt.alloc(), "GET - - 1.0")?);
+    assert!(&rt; has_few(rt.alloc(), "GET _ - 1.0")?);
     Ok(())
 }
 
-fn first_line(alloc: Global, framing: Framing) -> Result<String, NoMemory> {
+// Whether the environment of a request with such a body begins with a line.
+fn begins_with(alloc: Global, framing: Framing, line: &str) -> Result<bool, NoMemory> {
     let request = request(alloc, "GET - [::1]", b"", framing)?;
     let given = asked(alloc, &request, "")?;
-    let line = given.as_str().lines().next().unwrap_or("");
-    Ok(String::from_str(alloc, line)?)
+    Ok(given.as_str().lines().next() == Some(line))
 }
+
+const LENGTHS: [(Framing, &str); 5] = [
+    (Framing::Empty, "GATEWAY_INTERFACE=CGI/1.1"),
+    (Framing::Length(0), "CONTENT_LENGTH=0"),
+    (Framing::Length(1048576), "CONTENT_LENGTH=1048576"),
+    (
+        Framing::Length(u64::MAX),
+        "CONTENT_LENGTH=18446744073709551615",
+    ),
+    (Framing::Chunked, "CONTENT_LENGTH=3"),
+];
 
 #[test]
 fn lengths(rt: HostRuntime) -> Result<(), NoMemory> {
-    for (framing, line) in [
-        (Framing::Empty, "GATEWAY_INTERFACE=CGI/1.1"),
-        (Framing::Length(0), "CONTENT_LENGTH=0"),
-        (Framing::Length(1048576), "CONTENT_LENGTH=1048576"),
-        (
-            Framing::Length(u64::MAX),
-            "CONTENT_LENGTH=18446744073709551615",
-        ),
-        (Framing::Chunked, "CONTENT_LENGTH=3"),
-    ] {
-        assert!(&rt; first_line(rt.alloc(), framing)?.as_str() == line, "{line}");
+    for (framing, line) in LENGTHS {
+        assert!(&rt; begins_with(rt.alloc(), framing, line)?, "{line}");
     }
     Ok(())
 }
 
-// A launch in one line: its program, its folder and its arguments, with a bar after each.
-fn shown_launch(alloc: Global, launch: &Launch) -> Result<String, NoMemory> {
-    let mut text = String::from_str(alloc, launch.program.as_str())?;
-    text.push(' ')?;
-    text.push_str(launch.dir.as_str())?;
-    text.push(' ')?;
-    for arg in launch.args.as_slice() {
+// Arguments with a bar after each.
+fn shown_args(alloc: Global, args: &Texts) -> Result<String, NoMemory> {
+    let mut text = String::new(alloc);
+    for arg in args.as_slice() {
         text.push_str(arg.as_str())?;
         text.push('|')?;
     }
     Ok(text)
 }
 
-// What is started for a method and a query.
-fn launched(alloc: Global, program: &str, line: &str) -> Result<String, NoMemory> {
+// A launch in one line: its program, its folder and its arguments.
+fn shown_launch(alloc: Global, launch: &Launch) -> Result<String, NoMemory> {
+    let args = shown_args(alloc, &launch.args)?;
+    let (program, dir) = (launch.program.as_str(), launch.dir.as_str());
+    Ok(format!(in alloc; "{program} {dir} {}", args.as_str())?)
+}
+
+// What is started for a request.
+fn started(alloc: Global, program: &str, request: &Request) -> Result<String, NoMemory> {
     let site = site(alloc, program)?;
     let mapped = mapped(alloc, "/cgi-bin", "")?;
     let peer = Peer(Text::copy_of(alloc, "192.0.2.1")?);
-    let request = request(alloc, line, b"", Framing::Empty)?;
-    if !has_texts(&request) || !names_script(&site, &mapped) {
-        return String::from_str(alloc, "no texts").map_err(NoMemory::from);
+    if !has_texts(request) || !names_script(&site, &mapped) {
+        return Ok(String::from_str(alloc, "no texts")?);
     }
-    let given = launch(alloc, &site, &peer, &request, &mapped)?;
+    let given = launch(alloc, &site, &peer, request, &mapped)?;
     shown_launch(alloc, &given)
+}
+
+// Whether a method and a query start what is wanted.
+fn starts(alloc: Global, program: &str, line: &str, wanted: &str) -> Result<bool, NoMemory> {
+    let request = request(alloc, line, b"", Framing::Empty)?;
+    let given = started(alloc, program, &request)?;
+    Ok(given.as_str() == wanted)
 }
 
 #[test]
@@ -306,12 +330,16 @@ fn launches(rt: HostRuntime) -> Result<(), NoMemory> {
         ("b", "POST a+b a", "b / "),
         ("/a/b", "GET - a", "/a/b /a "),
     ] {
-        assert!(&rt;
-            launched(rt.alloc(), program, line)?.as_str() == wanted,
-            "{wanted}"
-        );
+        assert!(&rt; starts(rt.alloc(), program, line, wanted)?, "{wanted}");
     }
     Ok(())
+}
+
+// A launch, and in the lines below it its environment.
+fn shown_with_env(alloc: Global, launch: &Launch) -> Result<String, NoMemory> {
+    let line = shown_launch(alloc, launch)?;
+    let env = shown(alloc, &launch.env)?;
+    Ok(format!(in alloc; "{}\n{}", line.as_str(), env.as_str())?)
 }
 
 // What a gateway's variables start, and then the environment.
@@ -319,15 +347,14 @@ fn from_gateway(alloc: Global, lines: &[u8]) -> Result<String, NoMemory> {
     let site = site(alloc, "/srv/cgi/hello")?;
     let pairs = fields(alloc, lines)?;
     match gateway_launch(alloc, &site, &pairs) {
-        Ok(launch) => {
-            let mut text = shown_launch(alloc, &launch)?;
-            text.push('\n')?;
-            text.push_str(shown(alloc, &launch.env)?.as_str())?;
-            Ok(text)
-        }
+        Ok(launch) => shown_with_env(alloc, &launch),
         Err(Refusal::Cause(_)) => Ok(String::from_str(alloc, "refused")?),
         Err(Refusal::NoMemory) => Err(NoMemory),
     }
+}
+
+fn gives(alloc: Global, lines: &[u8], wanted: &str) -> Result<bool, NoMemory> {
+    Ok(from_gateway(alloc, lines)?.as_str() == wanted)
 }
 
 const BY_NAME: &[u8] = b"CONTENT_LENGTH=0\nSCGI=1\nREQUEST_METHOD=GET\nSCRIPT_NAME=/cgi-bin";
@@ -366,9 +393,9 @@ PATH_TRANSLATED=/srv/www/é/%2F
 
 #[test]
 fn gateways(rt: HostRuntime) -> Result<(), NoMemory> {
-    assert!(&rt; from_gateway(rt.alloc(), BY_NAME)?.as_str() == FROM_NAME);
-    assert!(&rt; from_gateway(rt.alloc(), BY_URI)?.as_str() == FROM_URI);
-    assert!(&rt; from_gateway(rt.alloc(), MANY)?.as_str() == FROM_MANY);
+    assert!(&rt; gives(rt.alloc(), BY_NAME, FROM_NAME)?);
+    assert!(&rt; gives(rt.alloc(), BY_URI, FROM_URI)?);
+    assert!(&rt; gives(rt.alloc(), MANY, FROM_MANY)?);
     Ok(())
 }
 

@@ -120,11 +120,14 @@ GET http://b/ 1.0 / - b
 GET http://b 1.1 / - b _
 GET /cgi-bin/hello/a%20b/?x=1 1.1 /cgi-bin/hello/a%20b/ x=1 example.com example.com:8080";
 
+fn is_split(alloc: Global, line: &str) -> Result<bool, NoMemory> {
+    let head = head(alloc, line, 6)?;
+    Ok(is_target(&split_target(alloc, &head), line))
+}
+
 fn wrong_target<'a>(alloc: Global, table: &'a str) -> Result<Option<&'a str>, NoMemory> {
     for line in table.lines() {
-        let head = head(alloc, line, 6)?;
-        let given = split_target(alloc, &head);
-        if !is_target(&given, line) {
+        if !is_split(alloc, line)? {
             return Ok(Some(line));
         }
     }
@@ -174,11 +177,14 @@ GET http://:80/ 1.1 BadTarget a
 GET http://u@b/ 1.1 BadTarget a
 GET /a#b 1.1 BadTarget a";
 
+fn is_refused_target(alloc: Global, line: &str) -> Result<bool, NoMemory> {
+    let head = head(alloc, line, 4)?;
+    Ok(is_cause(&split_target(alloc, &head), word(line, 3)))
+}
+
 fn wrong_refused_target<'a>(alloc: Global, table: &'a str) -> Result<Option<&'a str>, NoMemory> {
     for line in table.lines() {
-        let head = head(alloc, line, 4)?;
-        let given = split_target(alloc, &head);
-        if !is_cause(&given, word(line, 3)) {
+        if !is_refused_target(alloc, line)? {
             return Ok(Some(line));
         }
     }
@@ -289,10 +295,8 @@ fn two_scripts(alloc: Global, first: &str, second: &str) -> Result<Scripts, NoMe
 fn one_alias(alloc: Global, alias: &str) -> Result<Texts, NoMemory>
     ensures { IfOk result (λ aliases. aliases ≡ alias.now ∷ []) }
 {
-    let alias = Text::copy_of(alloc, alias)?;
-    let mut aliases = Texts::new(alloc);
-    aliases.push(alias)?;
-    Ok(aliases)
+    let only = Text::copy_of(alloc, alias)?;
+    Ok(Texts::from_vec(Vec::from_array(alloc, [only])?))
 }
 
 // A host with a name, an alias and two scripts.
@@ -379,22 +383,27 @@ const SCRIPTS: &str = "\
 /x/../cgi-bin/hello /cgi-bin/hello _
 http://www.A.example/cgi-bin/hello/b /cgi-bin/hello /b";
 
-fn wrong_script<'a>(alloc: Global, site: &Site, table: &'a str) -> Result<Option<&'a str>, NoMemory>
+fn is_script(alloc: Global, site: &Site, line: &str) -> bool
+    requires { HasHosts site.now.hosts }
+{
+    is_mapped(&asked(alloc, site, word(line, 0)), line)
+}
+
+fn wrong_script<'a>(alloc: Global, site: &Site, table: &'a str) -> Option<&'a str>
     requires { HasHosts site.now.hosts }
 {
     for line in table.lines() {
-        let given = asked(alloc, site, word(line, 0));
-        if !is_mapped(&given, line) {
-            return Ok(Some(line));
+        if !is_script(alloc, site, line) {
+            return Some(line);
         }
     }
-    Ok(None)
+    None
 }
 
 #[test]
 fn scripts(rt: HostRuntime) -> Result<(), NoMemory> {
     let site = three_hosts(rt.alloc(), true, "/cgi-bin", "/cgi-bin/hello")?;
-    if let Some(line) = wrong_script(rt.alloc(), &site, SCRIPTS)? {
+    if let Some(line) = wrong_script(rt.alloc(), &site, SCRIPTS) {
         panic!(&rt; "{line}");
     }
     match asked(rt.alloc(), &site, "/cgi-bin/hello/a%20b/?x=1") {
@@ -433,26 +442,27 @@ const REFUSED_PATHS: &str = "\
 /cgi-bin/hellox NoScript
 //cgi-bin/hello NoScript";
 
-fn wrong_refused_path<'a>(
-    alloc: Global,
-    site: &Site,
-    table: &'a str,
-) -> Result<Option<&'a str>, NoMemory>
+fn is_refused_path(alloc: Global, site: &Site, line: &str) -> bool
+    requires { HasHosts site.now.hosts }
+{
+    is_cause(&asked(alloc, site, word(line, 0)), word(line, 1))
+}
+
+fn wrong_refused_path<'a>(alloc: Global, site: &Site, table: &'a str) -> Option<&'a str>
     requires { HasHosts site.now.hosts }
 {
     for line in table.lines() {
-        let given = asked(alloc, site, word(line, 0));
-        if !is_cause(&given, word(line, 1)) {
-            return Ok(Some(line));
+        if !is_refused_path(alloc, site, line) {
+            return Some(line);
         }
     }
-    Ok(None)
+    None
 }
 
 #[test]
 fn refused_paths(rt: HostRuntime) -> Result<(), NoMemory> {
     let site = three_hosts(rt.alloc(), true, "/cgi-bin/hello", "/cgi-bin/form")?;
-    if let Some(line) = wrong_refused_path(rt.alloc(), &site, REFUSED_PATHS)? {
+    if let Some(line) = wrong_refused_path(rt.alloc(), &site, REFUSED_PATHS) {
         panic!(&rt; "{line}");
     }
     Ok(())
@@ -467,14 +477,18 @@ fn asked_at(alloc: Global, site: &Site, line: &str) -> Result<Mapped, Refusal>
     map(alloc, site, &target)
 }
 
+fn place_name(host: u32) -> &'static str {
+    match host {
+        0 => "first",
+        1 => "second",
+        _ => "third",
+    }
+}
+
 // Whether the fourth word of the line is the place of the mapped host, or the cause.
 fn is_answer(given: &Result<Mapped, Refusal>, line: &str) -> bool {
     match given {
-        Ok(mapped) => match mapped.host {
-            0 => word(line, 3) == "first",
-            1 => word(line, 3) == "second",
-            _ => word(line, 3) == "third",
-        },
+        Ok(mapped) => word(line, 3) == place_name(mapped.host),
         Err(_) => is_cause(given, word(line, 3)),
     }
 }

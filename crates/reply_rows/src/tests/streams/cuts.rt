@@ -1,5 +1,5 @@
 // Outputs whole, in single bytes and cut at each place, with a tick at each place: what each call writes.
-use super::super::cells::{Cells, count_of, is_row};
+use super::super::cells::{Cells, count_of, wrong_row};
 use super::{asked_of, is_ended, stamp_of};
 use host_base::{Bytes, NoMemory};
 use reply_stream::{Last, Stream};
@@ -69,13 +69,13 @@ WS | no | no | Content-Type: a\n\n | hi\n |  | - | bad | NoOutput
 ";
 
 // A row, and how the body follows its head.
-#[derive(Drop)]
-struct Row {
-    cells: Cells,
+#[derive(Clone, Copy)]
+struct Row<'r> {
+    cells: &'r Cells,
     body: Option<Body>,
 }
 
-impl Row {
+impl<'r> Row<'r> {
     fn header(&self) -> usize {
         self.cells.at(3).len()
     }
@@ -185,13 +185,13 @@ impl Telling {
     }
 
     // Whether the end is.
-    fn ends(self, alloc: Global, row: &Row) -> Result<bool, Fail> {
+    fn ends(self, alloc: Global, row: &Row) -> Result<bool, NoMemory> {
         let begun = self.begun;
         let last = self.stream.end(row.close(), stamp_of(row.dated()))?;
         if begun {
             Ok(is_end_mark(&last, row))
         } else {
-            is_ended(alloc, &last, &row.cells, 7)
+            is_ended(alloc, &last, row.cells, 7)
         }
     }
 }
@@ -205,7 +205,7 @@ fn is_end_mark(last: &Last, row: &Row) -> bool {
 
 fn telling_of(alloc: Global, row: &Row) -> Telling {
     Telling {
-        stream: Stream::new(alloc, asked_of(&row.cells)),
+        stream: Stream::new(alloc, asked_of(row.cells)),
         heard: 0,
         begun: false,
     }
@@ -213,7 +213,13 @@ fn telling_of(alloc: Global, row: &Row) -> Telling {
 
 // Whether the output is answered so where it is cut at one place, with a tick before, between or after its
 // parts, or with none.
-fn is_cut(alloc: Global, row: &Row, output: &[u8], at: usize, tick: usize) -> Result<bool, Fail> {
+fn is_cut(
+    alloc: Global,
+    row: &Row,
+    output: &[u8],
+    at: usize,
+    tick: usize,
+) -> Result<bool, NoMemory> {
     let mut telling = telling_of(alloc, row);
     let before = tick != 1 || telling.ticks(alloc, row, output);
     let first = telling.hears(alloc, row, output, at);
@@ -231,7 +237,7 @@ fn is_single(
     output: &[u8],
     at: usize,
     always: bool,
-) -> Result<bool, Fail> {
+) -> Result<bool, NoMemory> {
     let mut telling = telling_of(alloc, row);
     let mut right = true;
     for place in 0..output.len() {
@@ -243,7 +249,7 @@ fn is_single(
     Ok(telling.ends(alloc, row)? && right)
 }
 
-fn is_answered(alloc: Global, row: &Row, output: &[u8]) -> Result<bool, Fail> {
+fn is_answered(alloc: Global, row: &Row, output: &[u8]) -> Result<bool, NoMemory> {
     for at in 0..output.len() + 1 {
         for tick in 0..4 {
             if !is_cut(alloc, row, output, at, tick)? {
@@ -263,38 +269,22 @@ fn output_of(alloc: Global, row: &Cells) -> Result<Vec<u8>, NoMemory> {
     Ok(output)
 }
 
-fn is_answered_however_cut(alloc: Global, row: &Row) -> Result<bool, Fail> {
+fn is_answered_however_cut(alloc: Global, row: &Row) -> Result<bool, NoMemory> {
     if row.body.is_none() && !row.cells.is(6, "-") {
         return Ok(false);
     }
-    let output = output_of(alloc, &row.cells)?;
+    let output = output_of(alloc, row.cells)?;
     is_answered(alloc, row, output.as_slice())
 }
 
-fn row_of(alloc: Global, line: &str) -> Result<Row, NoMemory> {
-    let cells = Cells::new(alloc, line)?;
+fn is_right(alloc: Global, cells: &Cells) -> Result<bool, NoMemory> {
     let body = body_of(cells.text(6));
-    Ok(Row { cells, body })
-}
-
-fn is_cut_row(alloc: Global, line: &str) -> Result<bool, Fail> {
-    let row = row_of(alloc, line)?;
-    is_answered_however_cut(alloc, &row)
-}
-
-// The first row that is wrong; nothing where none is.
-fn wrong_row(alloc: Global) -> Result<&'static str, Fail> {
-    for row in ROWS.lines() {
-        if is_row(row) && !is_cut_row(alloc, row)? {
-            return Ok(row);
-        }
-    }
-    Ok("")
+    is_answered_however_cut(alloc, &Row { cells, body })
 }
 
 #[test]
 fn cuts_and_ticks(rt: HostRuntime) -> Result<(), Fail> {
     assert_eq!(rt; count_of(ROWS), 35);
-    assert_eq!(rt; wrong_row(rt.alloc())?, "");
+    assert_eq!(rt; wrong_row(rt.alloc(), ROWS, is_right)?, "");
     Ok(())
 }

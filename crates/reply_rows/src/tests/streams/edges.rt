@@ -1,5 +1,5 @@
 // Outputs of 8,192 and 8,193 bytes, cut at each place, with a tick at each place: what each call writes.
-use super::super::cells::{Cells, count_of, is_row};
+use super::super::cells::{Cells, count_of, wrong_row};
 use super::long::filled_at;
 use super::{GET, asked_of};
 use host_base::{Bytes, NoMemory};
@@ -198,36 +198,21 @@ fn is_answered(alloc: Global, texts: &Texts) -> bool {
     is_single(alloc, texts, false) && is_single(alloc, texts, true)
 }
 
-fn is_edge_however_cut(alloc: Global, row: &Cells) -> Result<bool, NoMemory> {
+fn is_edge(alloc: Global, row: &Cells) -> Result<bool, NoMemory> {
     let texts = Texts::new(alloc, row)?;
     Ok(row.len() == 11 && is_answered(alloc, &texts))
-}
-
-fn is_edge(alloc: Global, row: &str) -> Result<bool, NoMemory> {
-    let cells = Cells::new(alloc, row)?;
-    is_edge_however_cut(alloc, &cells)
-}
-
-// The first row of a table that is wrong; nothing where none is.
-fn wrong_row(alloc: Global, table: &'static str) -> Result<&'static str, NoMemory> {
-    for row in table.lines() {
-        if is_row(row) && !is_edge(alloc, row)? {
-            return Ok(row);
-        }
-    }
-    Ok("")
 }
 
 #[test]
 fn outputs_about_8192_bytes(rt: HostRuntime) -> Result<(), Fail> {
     assert_eq!(rt; count_of(OUTPUTS), 3);
-    assert_eq!(rt; wrong_row(rt.alloc(), OUTPUTS)?, "");
+    assert_eq!(rt; wrong_row(rt.alloc(), OUTPUTS, is_edge)?, "");
     Ok(())
 }
 
 #[test]
 fn headers_about_8192_bytes(rt: HostRuntime) -> Result<(), Fail> {
     assert_eq!(rt; count_of(HEADERS), 3);
-    assert_eq!(rt; wrong_row(rt.alloc(), HEADERS)?, "");
+    assert_eq!(rt; wrong_row(rt.alloc(), HEADERS, is_edge)?, "");
     Ok(())
 }

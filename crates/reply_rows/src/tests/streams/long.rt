@@ -1,5 +1,5 @@
 // Outputs about the size at which a reply begins without a tick, and a header that is about as long.
-use super::super::cells::{Cells, count_of, is_row};
+use super::super::cells::{Cells, count_of, wrong_row};
 use super::{GET, asked_of, is_ended};
 use host_base::{Bytes, NoMemory};
 use reply_stream::{Asked, Last, Stream};
@@ -143,25 +143,10 @@ fn is_long(alloc: Global, row: &Cells) -> Result<bool, NoMemory> {
     Ok(row.len() == 10 && is_long_row_however_cut(alloc, &texts))
 }
 
-fn is_long_output_row(alloc: Global, row: &str) -> Result<bool, NoMemory> {
-    let cells = Cells::new(alloc, row)?;
-    is_long(alloc, &cells)
-}
-
-// The first row of its table that is wrong; nothing where none is.
-fn wrong_long_output_row(alloc: Global) -> Result<&'static str, NoMemory> {
-    for row in LONG.lines() {
-        if is_row(row) && !is_long_output_row(alloc, row)? {
-            return Ok(row);
-        }
-    }
-    Ok("")
-}
-
 #[test]
 fn long_outputs(rt: HostRuntime) -> Result<(), Fail> {
     assert_eq!(rt; count_of(LONG), 11);
-    assert_eq!(rt; wrong_long_output_row(rt.alloc())?, "");
+    assert_eq!(rt; wrong_row(rt.alloc(), LONG, is_long)?, "");
     Ok(())
 }
 
@@ -171,7 +156,7 @@ fn is_unwritten_as(
     row: &Cells,
     first: usize,
     size: usize,
-) -> Result<bool, Fail> {
+) -> Result<bool, NoMemory> {
     let mut stream = Stream::new(alloc, GET);
     let written = is_written(alloc, &mut stream, output, (first, size), b"");
     let begun = stream.has_begun();
@@ -179,7 +164,7 @@ fn is_unwritten_as(
     Ok(written && !begun && is_ended(alloc, &last, row, 3)?)
 }
 
-fn is_unwritten_however_cut(alloc: Global, output: &[u8], row: &Cells) -> Result<bool, Fail> {
+fn is_unwritten_however_cut(alloc: Global, output: &[u8], row: &Cells) -> Result<bool, NoMemory> {
     Ok(
         is_unwritten_as(alloc, output, row, 0, 1)?
             && is_unwritten_as(alloc, output, row, 0, 8192)?
@@ -188,30 +173,15 @@ fn is_unwritten_however_cut(alloc: Global, output: &[u8], row: &Cells) -> Result
     )
 }
 
-fn is_unwritten(alloc: Global, row: &Cells) -> Result<bool, Fail> {
+fn is_unwritten(alloc: Global, row: &Cells) -> Result<bool, NoMemory> {
     let output = filled_at(alloc, row, 0)?;
     is_unwritten_however_cut(alloc, output.as_slice(), row)
-}
-
-fn is_unwritten_row(alloc: Global, row: &str) -> Result<bool, Fail> {
-    let cells = Cells::new(alloc, row)?;
-    is_unwritten(alloc, &cells)
-}
-
-// The first row of its table that is wrong; nothing where none is.
-fn wrong_unwritten_row(alloc: Global) -> Result<&'static str, Fail> {
-    for row in UNWRITTEN.lines() {
-        if is_row(row) && !is_unwritten_row(alloc, row)? {
-            return Ok(row);
-        }
-    }
-    Ok("")
 }
 
 #[test]
 fn long_outputs_of_which_nothing_is_written(rt: HostRuntime) -> Result<(), Fail> {
     assert_eq!(rt; count_of(UNWRITTEN), 5);
-    assert_eq!(rt; wrong_unwritten_row(rt.alloc())?, "");
+    assert_eq!(rt; wrong_row(rt.alloc(), UNWRITTEN, is_unwritten)?, "");
     Ok(())
 }
 

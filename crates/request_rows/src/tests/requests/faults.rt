@@ -1,5 +1,5 @@
 // Heads that are refused, and what is left behind them.
-use super::super::cells::{Cells, count_of, is_row};
+use super::super::cells::{Cells, count_of, wrong_row};
 use super::reading::is_refused;
 use host_base::NoMemory;
 use std::alloc::Global;
@@ -51,32 +51,17 @@ BodyTooLong | no | POST / HTTP/1.1\r\nHost: a\r\nContent-Length: 184467440737095
 BodyTooLong | no | POST / HTTP/1.1\r\nHost: a\r\nContent-Length: 18446744073709551616\r\n\r\n
 ";
 
-fn is_fault(alloc: Global, row: &Cells) -> bool {
+fn is_fault(alloc: Global, row: &Cells) -> Result<bool, NoMemory> {
     let text = row.at(2);
-    match row.cause(0) {
+    Ok(match row.cause(0) {
         Some(cause) => is_refused(alloc, text, cause, row.is_yes(1), Some((true, text.len()))),
         None => false,
-    }
-}
-
-fn is_fault_row(alloc: Global, row: &str) -> Result<bool, NoMemory> {
-    let cells = Cells::new(alloc, row)?;
-    Ok(is_fault(alloc, &cells))
-}
-
-// The first row of its table that is wrong; nothing where none is.
-fn wrong_fault_row(alloc: Global) -> Result<&'static str, NoMemory> {
-    for row in FAULTS.lines() {
-        if is_row(row) && !is_fault_row(alloc, row)? {
-            return Ok(row);
-        }
-    }
-    Ok("")
+    })
 }
 
 #[test]
 fn faults_stay_and_keep_their_bytes(rt: HostRuntime) -> Result<(), Fail> {
     assert_eq!(rt; count_of(FAULTS), 41);
-    assert_eq!(rt; wrong_fault_row(rt.alloc())?, "");
+    assert_eq!(rt; wrong_row(rt.alloc(), FAULTS, is_fault)?, "");
     Ok(())
 }

@@ -1,5 +1,5 @@
 // Requests whose body has two readings, or is none.
-use super::super::cells::{Cells, count_of, is_row};
+use super::super::cells::{Cells, count_of, wrong_row};
 use super::reading::is_refused;
 use host_base::NoMemory;
 use std::alloc::Global;
@@ -45,62 +45,32 @@ BodyTooLong | no | POST / HTTP/1.1\r\nHost: a\r\nTransfer-Encoding: chunked\r\n\
 BadChunk | no | POST / HTTP/1.1\r\nHost: a\r\nExpect: 100-continue\r\nTransfer-Encoding: chunked\r\n\r\nx
 ";
 
-fn is_smuggled(alloc: Global, row: &Cells) -> bool {
+fn is_smuggled(alloc: Global, row: &Cells) -> Result<bool, NoMemory> {
     let text = row.at(1);
-    match row.cause(0) {
+    Ok(match row.cause(0) {
         Some(cause) => is_refused(alloc, text, cause, false, Some((true, text.len()))),
         None => false,
-    }
-}
-
-fn is_smuggled_row(alloc: Global, row: &str) -> Result<bool, NoMemory> {
-    let cells = Cells::new(alloc, row)?;
-    Ok(is_smuggled(alloc, &cells))
-}
-
-// The first row of its table that is wrong; nothing where none is.
-fn wrong_smuggled_row(alloc: Global) -> Result<&'static str, NoMemory> {
-    for row in SMUGGLED.lines() {
-        if is_row(row) && !is_smuggled_row(alloc, row)? {
-            return Ok(row);
-        }
-    }
-    Ok("")
+    })
 }
 
 #[test]
 fn what_has_two_readings_is_refused(rt: HostRuntime) -> Result<(), Fail> {
     assert_eq!(rt; count_of(SMUGGLED), 23);
-    assert_eq!(rt; wrong_smuggled_row(rt.alloc())?, "");
+    assert_eq!(rt; wrong_row(rt.alloc(), SMUGGLED, is_smuggled)?, "");
     Ok(())
 }
 
-fn is_bad_body(alloc: Global, row: &Cells) -> bool {
+fn is_bad_body(alloc: Global, row: &Cells) -> Result<bool, NoMemory> {
     let text = row.at(2);
-    match row.cause(0) {
+    Ok(match row.cause(0) {
         Some(cause) => is_refused(alloc, text, cause, row.is_yes(1), None),
         None => false,
-    }
-}
-
-fn is_bad_body_row(alloc: Global, row: &str) -> Result<bool, NoMemory> {
-    let cells = Cells::new(alloc, row)?;
-    Ok(is_bad_body(alloc, &cells))
-}
-
-// The first row of its table that is wrong; nothing where none is.
-fn wrong_bad_body_row(alloc: Global) -> Result<&'static str, NoMemory> {
-    for row in BAD_BODIES.lines() {
-        if is_row(row) && !is_bad_body_row(alloc, row)? {
-            return Ok(row);
-        }
-    }
-    Ok("")
+    })
 }
 
 #[test]
 fn chunks_that_are_none(rt: HostRuntime) -> Result<(), Fail> {
     assert_eq!(rt; count_of(BAD_BODIES), 7);
-    assert_eq!(rt; wrong_bad_body_row(rt.alloc())?, "");
+    assert_eq!(rt; wrong_row(rt.alloc(), BAD_BODIES, is_bad_body)?, "");
     Ok(())
 }

@@ -1,5 +1,5 @@
 // Long lines of a body, long pipelines and a long head.
-use super::super::cells::{Cells, count_of, is_row};
+use super::super::cells::{Cells, count_of, wrong_row};
 use super::reading::{
     Expected, LIMITS, is_answered_however_cut, is_refused, next_whole, push_times,
 };
@@ -30,7 +30,7 @@ fn is_long_line(
     copied && is_answered_however_cut(alloc, text.as_slice(), expected)
 }
 
-fn is_right(alloc: Global, row: &Cells) -> bool {
+fn is_right(alloc: Global, row: &Cells) -> Result<bool, NoMemory> {
     let fault = match row.cause(3) {
         Some(cause) => Some((cause, row.is_yes(4))),
         None => None,
@@ -45,34 +45,14 @@ fn is_right(alloc: Global, row: &Cells) -> bool {
             Some((false, 0))
         },
     };
-    is_long_line(
-        alloc,
-        row.at(0),
-        row.size(1).min(100_000),
-        row.at(2),
-        expected,
-    )
-}
-
-fn is_long_line_row(alloc: Global, row: &str) -> Result<bool, NoMemory> {
-    let cells = Cells::new(alloc, row)?;
-    Ok(is_right(alloc, &cells))
-}
-
-// The first row of its table that is wrong; nothing where none is.
-fn wrong_long_line_row(alloc: Global) -> Result<&'static str, NoMemory> {
-    for row in LONG_LINES.lines() {
-        if is_row(row) && !is_long_line_row(alloc, row)? {
-            return Ok(row);
-        }
-    }
-    Ok("")
+    let times = row.size(1).min(100_000);
+    Ok(is_long_line(alloc, row.at(0), times, row.at(2), expected))
 }
 
 #[test]
 fn long_lines_however_they_are_cut(rt: HostRuntime) -> Result<(), Fail> {
     assert_eq!(rt; count_of(LONG_LINES), 4);
-    assert_eq!(rt; wrong_long_line_row(rt.alloc())?, "");
+    assert_eq!(rt; wrong_row(rt.alloc(), LONG_LINES, is_right)?, "");
     Ok(())
 }
 

@@ -1,5 +1,5 @@
 // Which requests end the connection, and what a local redirect keeps of one.
-use super::super::cells::{Cells, count_of, is_row};
+use super::super::cells::{Cells, count_of, wrong_row};
 use super::reading::{LIMITS, next_whole};
 use host_base::{Bytes, Field, NoMemory, Request, Target};
 use request_reader::{ReqReader, persists, redirected};
@@ -9,10 +9,10 @@ use std::test::Fail;
 // The one request of a text.
 fn request_of(alloc: Global, text: &[u8]) -> Option<Request> {
     let mut reader = ReqReader::new(alloc, &LIMITS);
-    if reader.feed(text).is_err() {
-        return None;
+    match reader.feed(text) {
+        Ok(()) => next_whole(&mut reader),
+        Err(_) => None,
     }
-    next_whole(&mut reader)
 }
 
 // Whether another request may follow on the connection, and the head.
@@ -29,32 +29,17 @@ yes | GET / HTTP/1.1\r\nHost: a\r\nConnection: ,,\r\n\r\n
 yes | GET / HTTP/1.1\r\nHost: a\r\nClose: close\r\n\r\n
 ";
 
-fn is_lasting(alloc: Global, text: &[u8], lasting: bool) -> bool {
-    match request_of(alloc, text) {
-        Some(request) => persists(&request) == lasting,
+fn is_lasting(alloc: Global, row: &Cells) -> Result<bool, NoMemory> {
+    Ok(match request_of(alloc, row.at(1)) {
+        Some(request) => persists(&request) == row.is_yes(0),
         None => false,
-    }
-}
-
-fn is_lasting_row(alloc: Global, row: &str) -> Result<bool, NoMemory> {
-    let cells = Cells::new(alloc, row)?;
-    Ok(is_lasting(alloc, cells.at(1), cells.is_yes(0)))
-}
-
-// The first row of its table that is wrong; nothing where none is.
-fn wrong_lasting_row(alloc: Global) -> Result<&'static str, NoMemory> {
-    for row in LASTING.lines() {
-        if is_row(row) && !is_lasting_row(alloc, row)? {
-            return Ok(row);
-        }
-    }
-    Ok("")
+    })
 }
 
 #[test]
 fn which_requests_end_the_connection(rt: HostRuntime) -> Result<(), Fail> {
     assert_eq!(rt; count_of(LASTING), 10);
-    assert_eq!(rt; wrong_lasting_row(rt.alloc())?, "");
+    assert_eq!(rt; wrong_row(rt.alloc(), LASTING, is_lasting)?, "");
     Ok(())
 }
 
@@ -82,8 +67,9 @@ fn is_as(made: &Request, request: &Request, method: &[u8]) -> bool {
 }
 
 fn new_target(alloc: Global) -> Result<Target, NoMemory> {
+    let path = Bytes::from_slice(alloc, b"/new")?;
     Ok(Target {
-        path: Bytes::from_slice(alloc, b"/new")?,
+        path,
         query: None,
         host: None,
     })
@@ -103,24 +89,13 @@ fn is_redirected(alloc: Global, text: &[u8], method: &[u8], names: &[Vec<u8>]) -
     }
 }
 
-fn is_redirect_row(alloc: Global, row: &str) -> Result<bool, NoMemory> {
-    let cells = Cells::new(alloc, row)?;
-    Ok(is_redirected(alloc, cells.at(0), cells.at(1), cells.from(2)))
-}
-
-// The first row of its table that is wrong; nothing where none is.
-fn wrong_redirect_row(alloc: Global) -> Result<&'static str, NoMemory> {
-    for row in REDIRECTS.lines() {
-        if is_row(row) && !is_redirect_row(alloc, row)? {
-            return Ok(row);
-        }
-    }
-    Ok("")
+fn is_redirect(alloc: Global, row: &Cells) -> Result<bool, NoMemory> {
+    Ok(is_redirected(alloc, row.at(0), row.at(1), row.from(2)))
 }
 
 #[test]
 fn what_a_local_redirect_keeps(rt: HostRuntime) -> Result<(), Fail> {
     assert_eq!(rt; count_of(REDIRECTS), 3);
-    assert_eq!(rt; wrong_redirect_row(rt.alloc())?, "");
+    assert_eq!(rt; wrong_row(rt.alloc(), REDIRECTS, is_redirect)?, "");
     Ok(())
 }

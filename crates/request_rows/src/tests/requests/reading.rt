@@ -32,14 +32,17 @@ pub struct Expected<'t> {
 
 impl<'t> Expected<'t> {
     fn due_at(self, place: usize) -> Option<&'t [u8]> {
-        match self.due.get(place) {
-            Some(due) => Some(due.as_slice()),
-            None => None,
-        }
+        let due = self.due.get(place)?;
+        Some(due.as_slice())
     }
 
     fn count(self) -> usize {
-        (self.due.len() / 2).saturating_add(if self.followed { 1 } else { 0 })
+        let whole = self.due.len() / 2;
+        if self.followed {
+            whole.saturating_add(1)
+        } else {
+            whole
+        }
     }
 
     // Whether the request is the one that is due at this place.
@@ -67,19 +70,11 @@ pub fn push_times(text: &mut Vec<u8>, part: &[u8], times: usize) -> bool {
     true
 }
 
-fn whole_of(step: ReqStep) -> Option<Request> {
-    match step {
-        ReqStep::Whole(request) => Some(request),
-        ReqStep::More { .. } => None,
-        ReqStep::Bad { .. } => None,
-    }
-}
-
 // The whole request that a reader gives.
 pub fn next_whole(reader: &mut ReqReader) -> Option<Request> {
     match reader.step() {
-        Ok(step) => whole_of(step),
-        Err(_) => None,
+        Ok(ReqStep::Whole(request)) => Some(request),
+        _ => None,
     }
 }
 

@@ -1,5 +1,5 @@
 // Requests one after another, and what is left behind them.
-use super::super::cells::{Cells, count_of, is_row};
+use super::super::cells::{Cells, count_of, wrong_row};
 use super::reading::{Expected, NEXT, is_answered_however_cut, push_times};
 use host_base::NoMemory;
 use std::alloc::Global;
@@ -74,29 +74,14 @@ fn is_followed(alloc: Global, row: &Cells) -> bool {
     copied && is_answered_however_cut(alloc, all.as_slice(), expected)
 }
 
-fn is_right(alloc: Global, row: &Cells) -> bool {
+fn is_right(alloc: Global, row: &Cells) -> Result<bool, NoMemory> {
     let ends = row.is(1, "no") && row.is(2, "0");
-    is_given(alloc, row) && (!ends || is_followed(alloc, row))
-}
-
-fn is_request_row(alloc: Global, row: &str) -> Result<bool, NoMemory> {
-    let cells = Cells::new(alloc, row)?;
-    Ok(is_right(alloc, &cells))
-}
-
-// The first row of its table that is wrong; nothing where none is.
-fn wrong_request_row(alloc: Global) -> Result<&'static str, NoMemory> {
-    for row in REQUESTS.lines() {
-        if is_row(row) && !is_request_row(alloc, row)? {
-            return Ok(row);
-        }
-    }
-    Ok("")
+    Ok(is_given(alloc, row) && (!ends || is_followed(alloc, row)))
 }
 
 #[test]
 fn requests_and_another_behind_each(rt: HostRuntime) -> Result<(), Fail> {
     assert_eq!(rt; count_of(REQUESTS), 36);
-    assert_eq!(rt; wrong_request_row(rt.alloc())?, "");
+    assert_eq!(rt; wrong_row(rt.alloc(), REQUESTS, is_right)?, "");
     Ok(())
 }

@@ -1,5 +1,5 @@
 // What is waited for, and what is served and handed out before its end.
-use super::super::cells::{Cells, count_of, is_row};
+use super::super::cells::{Cells, count_of, wrong_row};
 use super::reading::{LIMITS, next_whole};
 use host_base::{Bytes, NoMemory, Request};
 use request_reader::{ReqReader, ReqStep};
@@ -88,45 +88,32 @@ fn is_unended_however_cut(alloc: Global, text: &[u8], due: bool, body: Option<&[
     is_unended(alloc, 0, 1, text, due, body)
 }
 
-fn is_right(alloc: Global, row: &Cells) -> bool {
+fn is_right(alloc: Global, row: &Cells) -> Result<bool, NoMemory> {
     let body = if row.is_yes(2) { Some(row.at(3)) } else { None };
-    is_unended_however_cut(alloc, row.at(0), row.is_yes(1), body)
-}
-
-fn is_unended_row(alloc: Global, row: &str) -> Result<bool, NoMemory> {
-    let cells = Cells::new(alloc, row)?;
-    Ok(is_right(alloc, &cells))
-}
-
-// The first row of its table that is wrong; nothing where none is.
-fn wrong_unended_row(alloc: Global) -> Result<&'static str, NoMemory> {
-    for row in UNENDED.lines() {
-        if is_row(row) && !is_unended_row(alloc, row)? {
-            return Ok(row);
-        }
-    }
-    Ok("")
+    Ok(is_unended_however_cut(alloc, row.at(0), row.is_yes(1), body))
 }
 
 #[test]
 fn what_is_waited_for_and_served_early(rt: HostRuntime) -> Result<(), Fail> {
     assert_eq!(rt; count_of(UNENDED), 14);
-    assert_eq!(rt; wrong_unended_row(rt.alloc())?, "");
+    assert_eq!(rt; wrong_row(rt.alloc(), UNENDED, is_right)?, "");
     Ok(())
 }
 
 const STREAMED: &[u8] =
     b"POST / HTTP/1.0\r\nContent-Length: 26\r\n\r\nabcdefghijklmnopqrstuvwxyzGET";
 
+// Adds the part of the body that is handed out.
+fn adds_part(reader: &mut ReqReader, body: &mut Bytes) -> bool {
+    let part = reader.take_body();
+    body.extend_from_slice(part.as_slice()).is_ok()
+}
+
 // Adds what has come of the body.
 fn takes(reader: &mut ReqReader, body: &mut Bytes) -> bool {
     match reader.early() {
-        Ok(request) => {
-            request.is_none()
-                || body
-                    .extend_from_slice(reader.take_body().as_slice())
-                    .is_ok()
-        }
+        Ok(Some(_)) => adds_part(reader, body),
+        Ok(None) => true,
         Err(_) => false,
     }
 }

@@ -3,7 +3,7 @@ use Rattle.std.proofs.Common.{◌≡◌, List, [], ◌∷◌, None, subst, sym}
 use Rattle.std.specs.Prelude.{All}
 use Rattle.std.proofs.lemmas.List.Elements.{All-from_recursion}
 use Rattle.host_loop.specs.Loops.{IsFresh}
-use Rattle.host_serve.proofs.tests.beside.pass.Goals as goal
+use Rattle.serve_rows.proofs.tests.beside.pass.Goals as goal
 
 two : {X : Type 0} (xs : List X) (a b : X) (P : X → Type 0) → xs ≡ a ∷ (b ∷ []) → P a → P b → All P xs
 two xs a b P e p q = subst (All P) (sym e) (All-from_recursion P (a ∷ (b ∷ [])) (p, (q, tt)))

@@ -2,8 +2,8 @@
 ghost use Rattle.std.specs.Prelude.{◌≡◌, ◌-◌, ◌^◌, None};
 
 use super::play::{event_at, site};
-use crate::serve_all;
 use host_loop::LoopEnd;
+use host_serve::serve_all;
 use host_trace::{Act, Acted, Event, Outside};
 use std::alloc::Global;
 use std::process::Abort;

@@ -1,10 +1,10 @@
 // Requests, and what a server owes them by RFC 6455 4.2.1 and 4.2.2.
-use crate::{Accept, accept_text, check};
 use host_base::{
     Bytes, Cause, Field, Fields, Framing, NoMemory, Request, Target, Text, Texts, Version,
 };
 use std::alloc::Global;
 use std::test::Fail;
+use ws_handshake::{Accept, accept_text, check};
 
 // The fields of the request that the cases change.
 const FIELDS: [(&str, &str); 6] = [

@@ -1,6 +1,6 @@
 // Runs of samples, and what is reported of them.
-use super::{run_sample, sample_report};
 use host_trace::{Act, Event, Item};
+use sample_run::{run_sample, sample_report};
 use std::alloc::Global;
 use std::process::Abort;
 use std::test::Fail;

@@ -1,7 +1,7 @@
 // Lists and reports as tables.
-use super::{sample, sample_text};
 use host_base::{Bytes, Launch, NoMemory, Pairs, Peer, Text, Texts};
 use host_trace::{Act, Event, Item};
+use sample_parts::{sample, sample_text};
 use std::alloc::Global;
 use std::process::Abort;
 use std::test::Fail;

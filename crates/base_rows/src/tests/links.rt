@@ -1,8 +1,8 @@
 // Frames of a client, and what a server makes of them (RFC 6455 5 to 7).
-use crate::{Link, Linked, Said};
 use host_base::NoMemory;
 use std::alloc::Global;
 use std::test::Fail;
+use ws_link::{Link, Linked, Said};
 
 // The masking key of the examples in RFC 6455 5.7.
 const KEY: [u8; 4] = [0x37, 0xfa, 0x21, 0x3d];

@@ -2,8 +2,8 @@
 ghost use Rattle.std.specs.Prelude.{◌≤◌, ◌^◌};
 
 use super::play::{ANSWERED, BEGUN, lines_of, outside, site};
-use crate::serve_site;
 use host_loop::{LoopEnd, WorldEnd};
+use host_serve::serve_site;
 use host_trace::Mode;
 use memory_world::MemoryWorld;
 use std::alloc::Global;

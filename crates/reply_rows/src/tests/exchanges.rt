@@ -1,7 +1,7 @@
 // What the reply of a leg writes, and how it closes. Each row is told as it stands.
 ghost use Rattle.reply_writer.specs.WholeRules.{IsStamp};
 
-use crate::{LegReply, fault_text};
+use exchange_reply::{LegReply, fault_text};
 use host_base::{Bytes, Cause, NoMemory, ScriptKind, Version};
 use reply_stream::{Asked, Last};
 use std::alloc::Global;

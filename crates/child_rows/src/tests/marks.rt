@@ -1,4 +1,4 @@
-use super::*;
+use conn_marks::Marks;
 use host_trace::Event;
 
 // What is told of connection 1.

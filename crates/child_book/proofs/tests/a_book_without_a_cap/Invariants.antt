@@ -1,4 +1,0 @@
-use Rattle.child_book.proofs.tests.a_book_without_a_cap.Given as goal
-
-abbrev pub ghosts-none_at_first : goal.ghosts-none_at_first
-ghosts-none_at_first g a = record { name = a.blank.name; parts = a.blank.parts }
