@@ -1,1 +1,2 @@
+pub mod Listens
 pub mod Nets

@@ -10,19 +10,21 @@ use std::net::{IpAddr, Net, SocketAddr};
 use std::os::fd::{AsRawFd, RawFd};
 use std::sync::Arc;
 
-/// A listening socket. Each client that connects is taken by one of those who share it. Contracts see its port.
+/// A listening socket. Each client that connects is taken by one of those who share it. Contracts see its address and its
+/// port.
 #[derive(Drop)]
 pub struct Listener {
     socket: Arc<TcpListener>,
+    address: IpAddr,
     port: u16,
 }
 
 impl Model for Listener {
-    ghost use Rattle.std.specs.Prelude.{ℕ};
+    ghost use Rattle.net_sockets.specs.Listens.{ListensAt};
 
-    ghost Value = { ℕ };
+    ghost Value = { ListensAt };
 
-    ghost view = { λ listener. listener.port };
+    ghost view = { λ listener. record { address = listener.address; port = listener.port } };
 }
 
 impl Listener {
@@ -33,7 +35,8 @@ impl Listener {
         address: IpAddr,
         port: u16,
     ) -> io::Result<Self>
-        ensures { IfOk result (λ listener. 0 < port → listener ≡ port) }
+        ensures address { IfOk result (λ listener. listener.address ≡ address) }
+        ensures port { IfOk result (λ listener. 0 < port → listener.port ≡ port) }
     {
         let socket = TcpListener::bind(net, SocketAddr::new(address, port))?;
         let port = if port == 0 {
@@ -43,6 +46,7 @@ impl Listener {
         };
         Ok(Listener {
             socket: Arc::new(alloc, socket)?,
+            address,
             port,
         })
     }
@@ -53,13 +57,14 @@ impl Listener {
     {
         Ok(Listener {
             socket: Arc::try_clone(&self.socket)?,
+            address: self.address,
             port: self.port,
         })
     }
 
     /// The port that is listened at.
     pub fn port(&self) -> u16
-        ensures { result ≡ self.now }
+        ensures { result ≡ self.now.port }
     {
         self.port
     }

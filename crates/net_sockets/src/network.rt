@@ -1,5 +1,6 @@
 // The network of the machine, and how often it failed.
 ghost use Rattle.std.specs.Prelude.{◌≡◌, ◌≤◌, ◌<◌, IfOk};
+ghost use Rattle.std.specs.Net.Grammar.{IsIpText};
 ghost use Rattle.host_base.specs.Outsides.{Rose};
 ghost use Rattle.net_sockets.specs.Nets.{IsFresh};
 
@@ -51,7 +52,8 @@ impl<R: Net + Clock + Copy + Drop> Network<R> {
     /// Listens at an IP address, also where connections of an earlier server are still closing there (SO_REUSEADDR).
     /// Port 0 is any free one.
     pub fn listen(&mut self, address: &str, port: u16) -> Result<Listener, NetFault>
-        ensures port { IfOk result (λ listener. 0 < port → listener ≡ port) }
+        ensures address { IfOk result (λ listener. IsIpText address.now listener.address) }
+        ensures port { IfOk result (λ listener. 0 < port → listener.port ≡ port) }
         ensures grown { self.old ≤ self.new }
         ensures failed { result ≡ Err NetFault.Failed → Rose self.old self.new }
     {

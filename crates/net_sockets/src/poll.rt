@@ -26,6 +26,8 @@ pub(crate) struct CountedPoll {
     poll: Poll,
     events: Events,
     reports: VecDeque<Ready>,
+    // The last wait was woken, which is no report: whoever waits looks for the cause between two waits.
+    is_woken: bool,
 }
 
 impl CountedPoll {
@@ -36,6 +38,7 @@ impl CountedPoll {
             poll: Poll::new(net)?,
             events: Events::with_capacity(alloc, REPORTS)?,
             reports: VecDeque::with_capacity(alloc, REPORTS)?,
+            is_woken: false,
         })
     }
 
@@ -59,10 +62,12 @@ impl CountedPoll {
         Waker::new(self.registry(), WAKER)
     }
 
-    /// Waits so many milliseconds, or until something is ready, and answers whether it could.
+    /// Waits so many milliseconds, or until something is ready, and answers whether it could. After one that was woken it
+    /// only looks: a wait that just looks may come between the bell and whoever hears its cause.
     pub fn wait(&mut self, millis: u64, failed: &mut u64) -> bool
         ensures { RisesUnless result failed.old failed.new }
     {
+        let millis = if self.is_woken { 0 } else { millis };
         let waited = self
             .poll
             .poll(&mut self.events, Some(Duration::from_millis(millis)));
@@ -77,9 +82,13 @@ impl CountedPoll {
     // What the wait reported, but for a wake-up.
     fn keep_reports(&mut self) {
         self.reports.clear();
+        self.is_woken = false;
         for event in self.events.iter() {
-            if let Some(report) = report_of(event) {
-                let _ = self.reports.push_back(report);
+            match report_of(event) {
+                Some(report) => {
+                    let _ = self.reports.push_back(report);
+                }
+                None => self.is_woken = true,
             }
         }
     }

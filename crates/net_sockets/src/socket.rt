@@ -21,6 +21,8 @@ pub struct TcpSocket {
     // The last read found that nothing has come, and the last write took nothing.
     dry: bool,
     full: bool,
+    // Our end was sent.
+    ended: bool,
     faults: u64,
 }
 
@@ -33,6 +35,7 @@ impl TcpSocket {
             watched: false,
             dry: false,
             full: false,
+            ended: false,
             faults: 0,
         }
     }
@@ -58,7 +61,17 @@ impl TcpSocket {
         ensures { IsSameSocket self.old self.new }
     {
         let _ = registry.deregister(&mut self.stream);
-        let _ = self.stream.shutdown(Shutdown::Write);
+        self.end();
+    }
+
+    // Sends our end, once.
+    fn end(&mut self)
+        ensures { self.new ≡ record self.old { ended = self.new.ended } }
+    {
+        if !self.ended {
+            self.ended = true;
+            let _ = self.stream.shutdown(Shutdown::Write);
+        }
     }
 
     fn count(&mut self)
@@ -124,7 +137,7 @@ impl Socket for TcpSocket {
     }
 
     fn end_sending(&mut self) {
-        let _ = self.stream.shutdown(Shutdown::Write);
+        self.end();
     }
 }
 

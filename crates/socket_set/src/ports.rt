@@ -1,5 +1,5 @@
 // Where clients come from, what tells that a socket is ready, and the clock.
-ghost use Rattle.std.specs.Prelude.{◌≡◌, ◌<◌};
+ghost use Rattle.std.specs.Prelude.{◌≡◌, ◌<◌, ◌≤◌};
 ghost use Rattle.socket_set.specs.Devices.{PortsTell, FailsUnless, Waits, AsksClock, is_answered};
 
 use super::Socket;
@@ -68,7 +68,8 @@ pub trait Ports {
 
     /// How many milliseconds are left until it shows 100 ms more: 1 to 100.
     fn millis_to_tick(&mut self) -> u64
-        ensures { tells self.new ≡ tells self.old };
+        ensures range { (0 < result) × (result ≤ 100) }
+        ensures same { tells self.new ≡ tells self.old };
 
     /// The Unix seconds that the clock shows, below those of the year 10,000.
     fn seconds(&mut self) -> u64
