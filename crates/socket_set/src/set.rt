@@ -34,7 +34,7 @@ pub struct SocketSet<P: Ports> {
     due: VecDeque<Due>,
     // No further client is accepted.
     ended: bool,
-    // .. until the next tick.
+    // .. until the next tick, or until a client has left.
     paused: bool,
     listener_queued: bool,
     // So many may be told before the ports are asked again what is ready.
@@ -326,6 +326,17 @@ impl<P: Ports + Drop> SocketSet<P> {
     {
         if let Some(mut client) = self.clients.remove(&c) {
             client.forget(&mut self.ports);
+            self.resume();
+        }
+    }
+
+    // Has the listener asked again, where it was passed over for want of room or of descriptors.
+    fn resume(&mut self)
+        ensures { self.new ≡ self.old }
+    {
+        if self.paused {
+            self.paused = false;
+            self.enqueue_listener();
         }
     }
 
@@ -337,7 +348,8 @@ impl<P: Ports + Drop> SocketSet<P> {
         }
     }
 
-    // Takes the next client that waits. Where that fails, it is tried again after the next tick.
+    // Takes the next client that waits. Where that fails, or there is no room, it is tried again once a client has left, and
+    // after the next tick.
     #[tactic(auto, using(crate::proofs::Sets::quiet_self, crate::proofs::Sets::counted_self))]
     fn accept(&mut self) -> Option<Event>
         ensures some { IfSome result (λ event. Tells event self.old self.new) }
@@ -430,10 +442,7 @@ impl<P: Ports + Drop> SocketSet<P> {
         }
         self.ticked += 1;
         let secs = self.ports.seconds();
-        if self.paused {
-            self.paused = false;
-            self.enqueue_listener();
-        }
+        self.resume();
         self.tick_leaving();
         Some(Event::Tick { secs })
     }

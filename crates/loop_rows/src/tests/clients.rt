@@ -67,6 +67,7 @@ const PLAIN: Plan = Plan {
     bytes: b"x",
     ending: Ending::Nothing,
     room: Room::All,
+    clients: 1,
     accepts_fail: 0,
     waits_fail: false,
 };
@@ -183,5 +184,21 @@ fn ends_ticks_and_failures_are_told(rt: HostRuntime) -> Result<(), Fail> {
         (PLAIN, b"epzp", b"-t", 0),
     ];
     assert_eq!(rt; wrong_row(rt.alloc(), &rows)?, None);
+    Ok(())
+}
+
+#[test]
+fn who_waits_for_room_comes_once_another_has_left(rt: HostRuntime) -> Result<(), Fail> {
+    let alloc = rt.alloc();
+    let plan = Plan {
+        bytes: b"",
+        ending: Ending::End,
+        clients: 2,
+        ..PLAIN
+    };
+    let mut set = SocketSet::new(alloc, FakePorts::new(alloc, plan), 1)?;
+    // The first is shut; the next ask sends our end, and the one behind it finds the client's.
+    let told = told_in(alloc, &mut set, b"ppspp")?;
+    assert_eq!(rt; told.as_slice(), b"A--A".as_slice());
     Ok(())
 }

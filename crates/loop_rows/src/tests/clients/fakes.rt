@@ -26,6 +26,8 @@ pub struct Plan {
     pub bytes: &'static [u8],
     pub ending: Ending,
     pub room: Room,
+    /// So many of it come, one after the other.
+    pub clients: u32,
     /// So many asks for it fail first, and so does each wait.
     pub accepts_fail: u32,
     pub waits_fail: bool,
@@ -84,12 +86,11 @@ impl Socket for FakeSocket {
     fn end_sending(&mut self) {}
 }
 
-/// One client comes, whose socket is reported once, and the clock shows a tick more with each wait that is no look.
+/// Clients come, whose listener is reported once, and the clock shows a tick more with each wait that is no look.
 #[derive(Drop)]
 pub struct FakePorts {
     alloc: Global,
     plan: Plan,
-    comes: bool,
     reported: bool,
     clock: u64,
     shown: u64,
@@ -103,7 +104,6 @@ impl FakePorts {
         FakePorts {
             alloc,
             plan,
-            comes: true,
             reported: false,
             clock: 0,
             shown: 0,
@@ -125,14 +125,14 @@ impl Ports for FakePorts {
             self.failed = one_more(self.failed);
             return Arrival::Failed;
         }
-        if !self.comes {
+        if self.plan.clients == 0 {
             return Arrival::Nothing;
         }
         let Ok(name) = Text::copy_of(self.alloc, "") else {
             self.failed = one_more(self.failed);
             return Arrival::Failed;
         };
-        self.comes = false;
+        self.plan.clients -= 1;
         Arrival::Client {
             socket: FakeSocket {
                 plan: self.plan,
