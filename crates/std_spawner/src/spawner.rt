@@ -126,7 +126,7 @@ impl<R: Wait + Drop, T: StartThread + Drop> StdSpawner<R, T> {
     ) -> Result<OutPump<StandardInput>, SpawnFault>
         requires { IsFreshRing ring }
         ensures pump { IfOk result (λ pump. ring_of pump ≡ ring) }
-        ensures count { self.new.faults ≡ self.old.faults }
+        ensures same { self.new ≡ record self.old { client = self.new.client } }
     {
         let thread = self.thread()?;
         let (Ok(bell), Ok(end_bell), Ok(hands)) = (
@@ -152,6 +152,7 @@ impl<R: Wait + Drop, T: StartThread + Drop> StdSpawner<R, T> {
         ensures pump { IfOk result (λ pump. ring_of pump ≡ ring) }
         ensures count { self.old.faults ≤ self.new.faults }
         ensures failed { result ≡ Err SpawnFault.Failed → Rose self.old.faults self.new.faults }
+        ensures taken { self.new.taken ≡ self.old.taken }
     {
         let started = self.begin_input(input, ring);
         if let Err(SpawnFault::Failed) = &started {
