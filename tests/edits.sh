@@ -12,10 +12,10 @@ root=$(cd "$(dirname "$0")/.." && pwd)
 list=$root/tests/edits/refused
 cd "$root/tests/edits"
 
-# A sum of all that the crate is proved from, apart from those below it.
+# A sum of all that the crate is proved from, apart from those below it. Its tests are no part of that.
 crate_sum() {
-    (cd "$root/crates/$1" && find . \( -path './src/*' -o -path './specs/*' -o -path './proofs/*' \) -type f | sort | xargs sha256sum) |
-        sha256sum | cut -c 1-32
+    (cd "$root/crates/$1" && find . -type f \( -path './src/*' -o -path './specs/*' -o -path './proofs/*' \) ! -path './src/tests*' |
+        sort | xargs sha256sum) | sha256sum | cut -c 1-32
 }
 
 # A line for each edit of a crate, as the list has it.

@@ -6,6 +6,7 @@ mod listener;
 mod network;
 mod poll;
 mod ports;
+mod share;
 mod socket;
 #[cfg(test)]
 mod tests;

@@ -1,9 +1,10 @@
 // The address that is listened at.
-ghost use Rattle.std.specs.Prelude.{◌≡◌, ◌<◌, IfOk};
+ghost use Rattle.std.specs.Prelude.{◌≡◌, ◌<◌, None, IfOk};
 
+use super::share::{Share, Shares};
 use host_base::NoMemory;
 use mio::net::{TcpListener, TcpStream};
-use std::alloc::Global;
+use std::alloc::{AllocError, Global};
 use std::io;
 use std::marker::Model;
 use std::net::{IpAddr, Net, SocketAddr};
@@ -15,6 +16,7 @@ use std::sync::Arc;
 #[derive(Drop)]
 pub struct Listener {
     socket: Arc<TcpListener>,
+    shares: Shares,
     address: IpAddr,
     port: u16,
 }
@@ -46,6 +48,7 @@ impl Listener {
         };
         Ok(Listener {
             socket: Arc::new(alloc, socket)?,
+            shares: Shares::new(alloc)?,
             address,
             port,
         })
@@ -57,6 +60,7 @@ impl Listener {
     {
         Ok(Listener {
             socket: Arc::try_clone(&self.socket)?,
+            shares: self.shares.another()?,
             address: self.address,
             port: self.port,
         })
@@ -67,6 +71,13 @@ impl Listener {
         ensures { result ≡ self.now.port }
     {
         self.port
+    }
+
+    // What one more loop has of its clients.
+    pub(crate) fn share(&self) -> Result<Share, AllocError>
+        ensures { IfOk result (λ share. share.left_in ≡ None) }
+    {
+        Ok(self.shares.another()?.join())
     }
 
     pub(crate) fn accept(&self) -> io::Result<(TcpStream, SocketAddr)> {

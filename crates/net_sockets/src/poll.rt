@@ -93,6 +93,11 @@ impl CountedPoll {
         }
     }
 
+    /// Has the listening socket reported once more.
+    pub fn remind(&mut self) {
+        let _ = self.reports.push_back(Ready::Listener);
+    }
+
     /// One report of the last wait, and only once.
     pub fn report(&mut self) -> Option<Ready>
         ensures first { IfSome result (λ report. self.old.reports.items ≡ report ∷ self.new.reports.items) }

@@ -5,6 +5,7 @@ ghost use Rattle.socket_set.specs.Devices.{is_answered};
 ghost use Rattle.net_sockets.specs.Nets.{IsFresh};
 
 use super::poll::CountedPoll;
+use super::share::Share;
 use super::{Listener, TcpSocket};
 use host_base::{Peer, Text};
 use loop_bell::Bell;
@@ -28,6 +29,7 @@ pub struct NetPorts<R> {
     poll: CountedPoll,
     // Until no further client is to come.
     listener: Option<Listener>,
+    share: Share,
     // What the clock showed when it was made.
     start: Duration,
     shown: u64,
@@ -44,6 +46,7 @@ impl<R: Net + Clock + Drop> NetPorts<R> {
         let poll = CountedPoll::new(&rt, alloc)?;
         poll.listen(listener.descriptor())?;
         let bell = Bell::by(alloc, poll.waker()?)?;
+        let share = listener.share()?;
         let start = rt.monotonic()?;
         Ok((
             NetPorts {
@@ -51,6 +54,7 @@ impl<R: Net + Clock + Drop> NetPorts<R> {
                 alloc,
                 poll,
                 listener: Some(listener),
+                share,
                 start,
                 shown: 0,
                 looks: 0,
@@ -113,6 +117,9 @@ impl<R: Clock> Ports for NetPorts<R> {
     ghost tells = { ports_tell };
 
     fn accept(&mut self) -> Arrival<TcpSocket> {
+        if self.share.leaves(self.shown) {
+            return Arrival::Nothing;
+        }
         let accepted = match &self.listener {
             Some(listener) => listener.accept(),
             None => return Arrival::Nothing,
@@ -125,7 +132,10 @@ impl<R: Clock> Ports for NetPorts<R> {
                     Arrival::Failed
                 }
             },
-            Err(error) if error.kind() == ErrorKind::WouldBlock => Arrival::Nothing,
+            Err(error) if error.kind() == ErrorKind::WouldBlock => {
+                self.share.settle();
+                Arrival::Nothing
+            }
             Err(_) => {
                 self.count();
                 Arrival::Failed
@@ -134,6 +144,7 @@ impl<R: Clock> Ports for NetPorts<R> {
     }
 
     fn end_listening(&mut self) {
+        self.share.settle();
         if let Some(listener) = self.listener.take() {
             self.poll.unlisten(listener.descriptor());
         }
@@ -145,21 +156,33 @@ impl<R: Clock> Ports for NetPorts<R> {
         } else {
             Interest::READABLE
         };
+        let is_new = !socket.is_watched();
         let watched = socket.watch(self.poll.registry(), Token(c as usize), interest);
         if watched.is_err() {
             self.count();
             return false;
         }
+        if is_new {
+            self.share.gain();
+        }
         true
     }
 
     fn forget(&mut self, socket: &mut TcpSocket) {
+        if socket.is_watched() {
+            self.share.lose();
+        }
         socket.forget(self.poll.registry());
     }
 
     fn wait(&mut self, millis: u64) -> bool {
         self.waits = self.waits.saturating_add(1);
-        self.poll.wait(millis, &mut self.failed)
+        let waited = self.poll.wait(millis, &mut self.failed);
+        if self.share.has_left() {
+            // Its edge is past.
+            self.poll.remind();
+        }
+        waited
     }
 
     fn ready(&mut self) -> Option<Ready>

@@ -40,6 +40,13 @@ impl TcpSocket {
         }
     }
 
+    /// It is reported.
+    pub(crate) fn is_watched(&self) -> bool
+        ensures { result ≡ self.now.watched }
+    {
+        self.watched
+    }
+
     // Registers it, or registers it anew for more.
     pub(crate) fn watch(
         &mut self,

@@ -180,3 +180,94 @@ fn a_bell_ends_a_wait_and_the_clock_goes_on(rt: HostRuntime) -> Result<(), Fail>
     assert!(rt; matches!(network.listen("nowhere", 0), Err(NetFault::Failed)));
     Ok(())
 }
+
+// Two loops at one listener, and who came to it.
+#[derive(Drop)]
+struct Both<R> {
+    first: NetPorts<R>,
+    second: NetPorts<R>,
+    port: u16,
+    clients: Vec<TcpStream>,
+    sockets: Vec<TcpSocket>,
+}
+
+fn shared<R: Net + Clock + Copy + Drop>(rt: R, alloc: Global) -> Result<Both<R>, NetFault> {
+    let mut network = Network::new(rt, alloc);
+    let listener = network.listen("127.0.0.1", 0)?;
+    let port = listener.port();
+    let Ok(other) = listener.another() else {
+        return Err(NetFault::NoMemory);
+    };
+    let (first, _) = network.ports(listener)?;
+    let (second, _) = network.ports(other)?;
+    Ok(Both {
+        first,
+        second,
+        port,
+        clients: Vec::new(alloc),
+        sockets: Vec::new(alloc),
+    })
+}
+
+// Whether one more could connect.
+fn comes<N: Net<Stream = TcpStream>, R>(net: &N, shared: &mut Both<R>) -> bool {
+    match TcpStream::connect(net, ("127.0.0.1", shared.port)) {
+        Ok(client) => shared.clients.push(client).is_ok(),
+        Err(_) => false,
+    }
+}
+
+// Whether a loop takes who waits.
+fn takes<R: Clock>(ports: &mut NetPorts<R>, sockets: &mut Vec<TcpSocket>) -> bool {
+    match accepted(ports) {
+        Some(mut socket) => {
+            ports.watch(&mut socket, sockets.len() as u64, false) && sockets.push(socket).is_ok()
+        }
+        None => false,
+    }
+}
+
+fn leaves<R: Clock>(ports: &mut NetPorts<R>) -> bool {
+    matches!(ports.accept(), Arrival::Nothing)
+}
+
+// Whether its listener is reported by the next wait, and then its clock shows a tick more.
+fn asks_again<R: Clock>(ports: &mut NetPorts<R>) -> bool {
+    ports.wait(100);
+    if !matches!(ports.ready(), Some(Ready::Listener)) {
+        return false;
+    }
+    let before = ports.ticks();
+    for _ in 0..WAITS {
+        ports.wait(100);
+        if ports.ticks() > before {
+            return true;
+        }
+    }
+    false
+}
+
+// Whether a loop leaves who comes to one that has fewer, and takes whom that one doesn't take in a tick.
+fn is_spread<N: Net<Stream = TcpStream>, R: Clock>(net: &N, it: &mut Both<R>) -> bool {
+    comes(net, it)
+        && takes(&mut it.first, &mut it.sockets)
+        && comes(net, it)
+        && leaves(&mut it.first)
+        && takes(&mut it.second, &mut it.sockets)
+        && comes(net, it)
+        && takes(&mut it.first, &mut it.sockets)
+        && comes(net, it)
+        && leaves(&mut it.first)
+        && asks_again(&mut it.first)
+        && takes(&mut it.first, &mut it.sockets)
+}
+
+#[test]
+fn clients_are_spread_over_loops(rt: HostRuntime) -> Result<(), Fail> {
+    let Ok(mut shared) = shared(rt, rt.alloc()) else {
+        return Err(Fail::from("it does not listen"));
+    };
+    let is_right = is_spread(&rt, &mut shared);
+    assert!(rt; is_right);
+    Ok(())
+}
