@@ -1,8 +1,8 @@
 -- What a pump whose tap was dropped leaves, and what a pump whose pipe is told took.
-use Rattle.std.proofs.Common.{◌≡◌, ℕ, ◌+◌, ◌≤◌, ◌<◌, ◌^◌, List, [], ◌++◌, length, ◌↔◌, Bool, true, false, Option, Some, None, refl, sym, ap, ◌∙◌, append_assoc, arith, length-append, nat_eq}
+use Rattle.std.proofs.Common.{◌≡◌, ℕ, ◌+◌, ◌≤◌, ◌<◌, ◌^◌, List, [], ◌++◌, length, take, ◌↔◌, Bool, true, false, Option, Some, None, refl, sym, ap, ◌∙◌, append_assoc, arith, length-append, nat_eq}
 use Rattle.std.proofs.lemmas.Bool.Decides.{nat_tests}
 use Rattle.std.proofs.Math.Seq.{take-length}
-use Rattle.std.proofs.lemmas.List.{append-nil}
+use Rattle.std.proofs.lemmas.List.{append-nil, take-append-le}
 use Rattle.std.specs.Io.KnownBytes.{Consumes}
 use Rattle.std.specs.declared.alloc.Global.{Global}
 use Rattle.rtrb.specs.Ring.{sent}
@@ -10,10 +10,25 @@ use Rattle.rtrb.specs.declared.producer.Producer.{Producer}
 use Rattle.rtrb.specs.declared.AnyItems.{AnyItems}
 use Rattle.pipe_pump.specs.declared.ends.PumpEnd.{PumpEnd}
 use Rattle.pipe_pump.specs.declared.ends.PumpEnd.TheVariants.{AtEnd, Broken, Spent, Abandoned}
+use Rattle.pipe_pump.specs.declared.pipe.PipeRead.{PipeRead}
+use Rattle.pipe_pump.specs.declared.pipe.PipeRead.TheVariants.{Bytes, End, Failed}
+use Rattle.pipe_pump.specs.Pipes.{Reads}
 use Rattle.pipe_pump.specs.Rings.{popped}
 use Rattle.pipe_pump.specs.Moved.{Gives, GivesMore, Sends, SendsPart, SendEnds, KnownEnd, Takes, Moves, Stops}
 use Rattle.pipe_pump.proofs.Fronts.{moves_two, front_two, rose_later}
 use Rattle.pipe_pump.specs.PipeLaws.{FedPipe, FeedsArriveInOrder}
+
+-- what a read brought stands at the front of the piece that it was given, and of what that is a front of
+pub reads_more : (b a : Option (List ℕ)) (into rest : List ℕ) (r : PipeRead) → ((n : ℕ) → r ≡ Bytes n → n ≤ length into) → Reads b a into r → Reads b a (into ++ rest) r
+reads_more b a into rest (Bytes n) h g = rw (take-append-le n into rest (h n refl)) g
+reads_more b a into rest End h g = g
+reads_more b a into rest Failed h g = g
+
+-- .. and in the buffer that such bytes were put back into
+pub reads_back : (b a : Option (List ℕ)) (bytes rest : List ℕ) (n : ℕ) (r : PipeRead) → length bytes ≡ n → Reads b a bytes r → Reads b a (take n (bytes ++ rest)) r
+reads_back b a bytes rest n r e g =
+    let f : take n (bytes ++ rest) ≡ bytes = take-append-le n bytes rest (omega (arith, e)) ∙ (ap (λ m. take m bytes) (sym e) ∙ take-length bytes) in
+    rw f g
 
 -- bytes after bytes
 pub gave_two : (b m a : Option (List ℕ)) (xs ys : List ℕ) → Consumes b m xs → Consumes m a ys → Consumes b a (xs ++ ys)

@@ -4,6 +4,7 @@ ghost use Rattle.rtrb.specs.Ring.{sent, received, known_free, IsPair};
 ghost use Rattle.pipe_pump.specs.Hands.{IsMarked};
 ghost use Rattle.pipe_pump.specs.Rings.{IsFreshFeed, IsFeedOf, fed, is_open, places, known_places};
 
+use super::buffer::Buffer;
 use super::feeder::Feeder;
 use super::hand::{Hand, OneRing};
 use crossbeam_utils::sync::Parker;
@@ -17,6 +18,7 @@ use std::snapshot::Snapshot;
 pub struct FeedRing {
     source: Source,
     hand: Consumer<Hand, Global, OneRing>,
+    buffer: Buffer,
 }
 
 /// The ring's end, and where its pump sleeps.
@@ -49,11 +51,13 @@ pub fn feed_rings(alloc: Global, size: usize) -> Result<(Feeder, FeedRing), NoMe
     let (giver, taker) = hand_ring(alloc, &producer)?;
     let parker = Parker::new(alloc)?;
     let pump = parker.unparker().clone()?;
+    let buffer = Buffer::small(alloc)?;
     Ok((
         Feeder::new(producer, giver, pump),
         FeedRing {
             source: Source { consumer, parker },
             hand: taker,
+            buffer,
         },
     ))
 }
@@ -106,12 +110,23 @@ impl FeedRing {
         }
     }
 
-    pub(crate) fn parts(self) -> (Consumer<u8>, Consumer<Hand, Global, OneRing>, Parker)
+    pub(crate) fn parts(
+        self,
+    ) -> (
+        Consumer<u8>,
+        Consumer<Hand, Global, OneRing>,
+        Parker,
+        Buffer,
+    )
         ensures consumer { result.0 ≡ self.source.consumer }
         ensures hand { result.1 ≡ self.hand }
     {
-        let FeedRing { source, hand } = self;
+        let FeedRing {
+            source,
+            hand,
+            buffer,
+        } = self;
         let Source { consumer, parker } = source;
-        (consumer, hand, parker)
+        (consumer, hand, parker, buffer)
     }
 }

@@ -1,12 +1,15 @@
 // The pump from a pipe to a ring.
-ghost use Rattle.std.specs.Prelude.{◌≡◌, ◌≤◌, ◌<◌, ◌^◌, ◌↔◌, ◌++◌, ℕ, List, [], Option, false, IfOk, length};
+ghost use Rattle.std.specs.Prelude.{◌≡◌, ◌≤◌, ◌<◌, ◌^◌, ◌↔◌, ◌++◌, ℕ, List, [], Option, false, IfOk, length, vec_len};
 ghost use Rattle.std.specs.Io.KnownBytes.{Consumes, IsAtEnd};
 ghost use Rattle.host_base.specs.Outsides.{Rose};
 ghost use Rattle.rtrb.specs.Ring.{SameProducer};
 ghost use Rattle.pipe_pump.specs.Rings.{IsFreshRing, IsRingOf, IsEndOf, handed_up, is_finished, put_in, known_room};
+ghost use Rattle.pipe_pump.specs.Pipes.{Reads};
+ghost use Rattle.pipe_pump.specs.declared.pipe.PipeRead.TheVariants as ReadAs;
 ghost use Rattle.pipe_pump.specs.Moved.{Gives, Sends, SendEnds, KnownEnd};
 ghost use Rattle.pipe_pump.specs.declared.ends.RingEnd.TheVariants.{Output};
 
+use super::buffer::{Buffer, grow};
 use super::tap::Tap;
 use super::{PipeIn, PipeRead, PumpDone, PumpEnd, RingEnd};
 use crossbeam_utils::sync::Parker;
@@ -18,14 +21,12 @@ use std::sync::Wait;
 /// How many bytes a pump moves at most.
 pub(crate) const MOST: u64 = 0x4000_0000_0000_0000;
 
-/// How many bytes a pump moves at a time. They stand on the stack of its thread, which is small.
-pub(crate) const PIECE: usize = 16_384;
-
 /// What a pump from a pipe holds of its ring.
 #[derive(Drop)]
 pub struct PumpRing {
     producer: Producer<u8>,
     parker: Parker,
+    buffer: Buffer,
 }
 
 /// A ring with room for `size` bytes: the end of a pump from a pipe, and the end of the loop.
@@ -39,7 +40,15 @@ pub fn rings(alloc: Global, size: usize) -> Result<(PumpRing, Tap), NoMemory>
     let (producer, consumer) = RingBuffer::new(alloc, size)?;
     let parker = Parker::new(alloc)?;
     let pump = parker.unparker().clone()?;
-    Ok((PumpRing { producer, parker }, Tap::new(consumer, pump)))
+    let buffer = Buffer::small(alloc)?;
+    Ok((
+        PumpRing {
+            producer,
+            parker,
+            buffer,
+        },
+        Tap::new(consumer, pump),
+    ))
 }
 
 /// Moves bytes from a pipe to a ring until the pipe ends or fails, or the tap is gone. It waits for the pipe,
@@ -54,14 +63,18 @@ pub fn pump_out<R: Wait, P: PipeIn + Drop>(rt: &R, pipe: P, ring: PumpRing) -> P
     ensures spent { result.end ≡ PumpEnd.Spent ↔ (length (put_in result.ring) ≡ 2 ^ 62) }
     ensures full { result.end ≡ PumpEnd.Abandoned → known_room result.ring ≡ 0 }
 {
-    let PumpRing { producer, parker } = ring;
+    let PumpRing {
+        producer,
+        parker,
+        buffer,
+    } = ring;
     let mut producer = producer;
+    let mut buffer = buffer.into_bytes();
     let mut pipe = pipe;
     let mut total = 0;
-    let mut buffer = [0u8; PIECE];
     for _ in rt.forever() {
         let room = buffer.len().min((MOST - total) as usize);
-        let count = match pipe.read(&mut buffer[..room]) {
+        let count = match read_piece(&mut pipe, &mut buffer, room) {
             PipeRead::Bytes(count) => count,
             PipeRead::End => return done(PumpEnd::AtEnd, pipe, producer),
             PipeRead::Failed => return done(PumpEnd::Broken, pipe, producer),
@@ -78,8 +91,35 @@ pub fn pump_out<R: Wait, P: PipeIn + Drop>(rt: &R, pipe: P, ring: PumpRing) -> P
         ) {
             return done(end, pipe, producer);
         }
+        grow(&mut buffer, count);
     }
     unreachable!()
+}
+
+// One read of at most so many bytes.
+#[tactic(auto, using(crate::proofs::Gone::reads_back))]
+fn read_piece<P: PipeIn>(pipe: &mut P, buffer: &mut Vec<u8>, most: usize) -> PipeRead
+    requires most { (0 < most) × (most ≤ vec_len buffer.old) }
+    ensures within { (n : ℕ) → result ≡ ReadAs.Bytes n → (0 < n) × (n ≤ most) }
+    ensures room { vec_len buffer.new ≡ vec_len buffer.old }
+    ensures bytes { Reads (P.left pipe.old) (P.left pipe.new) buffer.new.items result }
+    ensures count { P.faults pipe.old ≤ P.faults pipe.new }
+    ensures cause { result ≡ ReadAs.Failed → Rose (P.faults pipe.old) (P.faults pipe.new) }
+{
+    read_front(pipe, buffer, most)
+}
+
+// .. to the front of a slice.
+#[tactic(auto, using(crate::proofs::Gone::reads_more))]
+fn read_front<P: PipeIn>(pipe: &mut P, buffer: &mut [u8], most: usize) -> PipeRead
+    requires most { (0 < most) × (most ≤ length buffer.old) }
+    ensures within { (n : ℕ) → result ≡ ReadAs.Bytes n → (0 < n) × (n ≤ most) }
+    ensures room { length buffer.new ≡ length buffer.old }
+    ensures bytes { Reads (P.left pipe.old) (P.left pipe.new) buffer.new result }
+    ensures count { P.faults pipe.old ≤ P.faults pipe.new }
+    ensures cause { result ≡ ReadAs.Failed → Rose (P.faults pipe.old) (P.faults pipe.new) }
+{
+    pipe.read(&mut buffer[..most])
 }
 
 fn done<P>(end: PumpEnd, pipe: P, producer: Producer<u8>) -> PumpDone<P>

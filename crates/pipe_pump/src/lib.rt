@@ -2,6 +2,7 @@
 //! runs in a thread of its own; nothing is lost between its pipe and the loop's end of its ring.
 #![tactic(auto)]
 
+mod buffer;
 mod ends;
 mod feed_ring;
 mod feed_state;

@@ -1,5 +1,5 @@
 // The pump from a ring to a pipe.
-ghost use Rattle.std.specs.Prelude.{◌≡◌, ◌≤◌, ◌<◌, ◌+◌, ◌^◌, ◌⊎◌, [], true, false, Ok, Some, None, IfOk, IfErr, IfSome, OnOk, length, take as list_take, drop as list_drop};
+ghost use Rattle.std.specs.Prelude.{◌≡◌, ◌≤◌, ◌<◌, ◌+◌, ◌^◌, ◌⊎◌, [], true, false, Ok, Some, None, IfOk, IfErr, IfSome, OnOk, length, vec_len, take as list_take, drop as list_drop};
 ghost use Rattle.std.specs.Io.KnownBytes.{Appends};
 ghost use Rattle.host_base.specs.Outsides.{Rose};
 ghost use Rattle.rtrb.specs.Ring.{sent, received, known_items, IsPair, SameConsumer};
@@ -8,8 +8,9 @@ ghost use Rattle.pipe_pump.specs.Rings.{IsFreshFeed, IsFeedEndOf, IsWholeFeed, p
 ghost use Rattle.pipe_pump.specs.declared.ends.RingEnd.TheVariants.{Input};
 ghost use Rattle.pipe_pump.specs.Moved.{Takes, Moves, TookFront, Stops};
 
+use super::buffer::grow;
 use super::feed_ring::FeedRing;
-use super::from_pipe::{MOST, PIECE};
+use super::from_pipe::MOST;
 use super::hand::{Hand, OneRing};
 use super::pop::pop;
 use super::{PipeOut, PipeWrite, PumpDone, PumpEnd, RingEnd};
@@ -32,12 +33,12 @@ pub fn pump_in<R: Wait, P: PipeOut + Drop>(rt: &R, ring: FeedRing, pipe: P) -> P
     ensures most { length (popped result.ring) ≡ 2 ^ 62 → (result.end ≡ PumpEnd.Spent) ⊎ (result.end ≡ PumpEnd.Broken) }
     ensures empty { result.end ≡ PumpEnd.Abandoned → known_left result.ring ≡ [] }
 {
-    let (consumer, hand, parker) = ring.parts();
+    let (consumer, hand, parker, buffer) = ring.parts();
     let mut consumer = consumer;
     let mut hand = hand;
     let mut pipe = pipe;
     let mut total = 0;
-    let mut buffer = [0u8; PIECE];
+    let mut buffer = buffer.into_bytes();
     match pump_open(
         rt,
         &mut pipe,
@@ -89,12 +90,12 @@ fn pump_open<R: Wait, P: PipeOut>(
     hand: &mut Consumer<Hand, Global, OneRing>,
     parker: &Parker,
     total: &mut u64,
-    buffer: &mut [u8],
+    buffer: &mut Vec<u8>,
 ) -> Result<Producer<u8>, PumpEnd>
     requires mark { IsMarkFor (received hand.old) consumer.old }
     requires total { length (received consumer.old) ≡ total.old }
     requires most { total.old < 2 ^ 62 }
-    requires room { 0 < length buffer.old }
+    requires room { 0 < vec_len buffer.old }
     ensures ring { SameConsumer consumer.old consumer.new }
     ensures moved { OnOk result (Moves (P.taken pipe.old) (P.taken pipe.new) (received consumer.old) (received consumer.new)) }
     ensures pair { IfOk result (λ p. IsPair p consumer.new) }
@@ -102,6 +103,7 @@ fn pump_open<R: Wait, P: PipeOut>(
     ensures stops { IfErr result (λ end. Stops ⊥ (known_items consumer.new ≡ []) end (P.taken pipe.old) (P.taken pipe.new) (P.faults pipe.old) (P.faults pipe.new) (received consumer.old) (received consumer.new)) }
     ensures total { length (received consumer.new) ≡ total.new }
     ensures most { OnOk result (total.new < 2 ^ 62) }
+    ensures room { OnOk result (0 < vec_len buffer.new) }
 {
     for _ in rt.forever() {
         let is_last = consumer.is_abandoned();
@@ -109,6 +111,7 @@ fn pump_open<R: Wait, P: PipeOut>(
             Ok(count) => count,
             Err(end) => return Err(end),
         };
+        grow(buffer, count);
         if count == 0 {
             if let Some(producer) = take_hand(hand, consumer) {
                 return Ok(producer);
@@ -147,12 +150,12 @@ fn pump_rest<R: Wait, P: PipeOut>(
     consumer: &mut Consumer<u8>,
     producer: &mut Producer<u8>,
     total: &mut u64,
-    buffer: &mut [u8],
+    buffer: &mut Vec<u8>,
 ) -> PumpEnd
     requires pair { IsPair producer.old consumer.old }
     requires total { length (received consumer.old) ≡ total.old }
     requires most { total.old < 2 ^ 62 }
-    requires room { 0 < length buffer.old }
+    requires room { 0 < vec_len buffer.old }
     ensures ring { SameConsumer consumer.old consumer.new }
     ensures pair { IsPair producer.new consumer.new }
     ensures closed { result ≡ PumpEnd.AtEnd → P.closed pipe.new ≡ true }
@@ -164,8 +167,9 @@ fn pump_rest<R: Wait, P: PipeOut>(
             pipe.finish();
             return PumpEnd::AtEnd;
         }
-        if let Err(end) = move_some(pipe, consumer, total, buffer) {
-            return end;
+        match move_some(pipe, consumer, total, buffer) {
+            Ok(count) => grow(buffer, count),
+            Err(end) => return end,
         }
     }
     unreachable!()

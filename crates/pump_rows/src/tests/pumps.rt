@@ -173,7 +173,12 @@ fn are_fed<R: Threads + Wait + Copy + Drop + Send + 'static>(
 #[test]
 fn pumps_in_threads_of_their_own(rt: HostRuntime) -> Result<(), Fail> {
     let alloc = rt.alloc();
-    for (size, count) in [(1usize, 300usize), (7, 3_000), (4_096, 30_000)] {
+    for (size, count) in [
+        (1usize, 300usize),
+        (7, 3_000),
+        (4_096, 30_000),
+        (70_000, 200_000),
+    ] {
         let bytes = counted(alloc, count)?;
         assert!(rt; are_relayed(&rt, alloc, bytes.as_slice(), size)?, "{size}");
         assert!(rt; are_fed(&rt, alloc, bytes.as_slice(), size)?, "{size}");

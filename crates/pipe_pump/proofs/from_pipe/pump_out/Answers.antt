@@ -9,16 +9,14 @@ use Rattle.pipe_pump.proofs.from_pipe.pump_out.Goals as goal
 pub returns-in-Some-send-clause-moved : goal.returns-in-Some-send-clause-moved
 returns-in-Some-send-clause-moved g c =
     let d = c.done-in-Some-send.ensures in
-    let within : c.in-Bytes.count ≤ length c.read.new.into = grind (arith, common_steps) in
-    let e : take c.in-Bytes.count (c.read.new.into ++ drop c.min-room.result c.loop.buffer) ≡ take c.in-Bytes.count c.read.new.into = take-append-le c.in-Bytes.count c.read.new.into (drop c.min-room.result c.loop.buffer) within in
-    let s = subst (λ p. Sends (Some c.in-Some-send.end) c.loop.producer c.send.new.producer p) e c.in-Some-send.ensures.sent in
-    rw (d.end, d.pipe, d.ring) (gives_last c.in-Some-send.end (g.P.PipeIn.left c.args.pipe) (g.P.PipeIn.left c.loop.pipe) (g.P.PipeIn.left c.read.new.self) (g.P.PipeIn.left c.send.new.pipe) c.loop.producer c.send.new.producer (take c.in-Bytes.count c.read.new.into) c.loop.invariant.3 c.in-Bytes.ensures.bytes c.send.ensures.pipe s)
+    let e : c.deref.result.now ≡ c.read_piece.new.buffer.items = grind (arith, common_steps) in
+    let s = subst (λ xs. Sends (Some c.in-Some-send.end) c.loop.producer c.send.new.producer (take c.in-Bytes.count xs)) e c.in-Some-send.ensures.sent in
+    rw (d.end, d.pipe, d.ring) (gives_last c.in-Some-send.end (g.P.PipeIn.left c.args.pipe) (g.P.PipeIn.left c.loop.pipe) (g.P.PipeIn.left c.read_piece.new.pipe) (g.P.PipeIn.left c.send.new.pipe) c.loop.producer c.send.new.producer (take c.in-Bytes.count c.read_piece.new.buffer.items) c.loop.invariant.3 c.in-Bytes.ensures.bytes c.send.ensures.pipe s)
 
 pub returns-in-Some-send-clause-spent : goal.returns-in-Some-send-clause-spent
 returns-in-Some-send-clause-spent g c =
     let d = c.done-in-Some-send.ensures in
-    let within : c.in-Bytes.count ≤ length c.read.new.into = grind (arith, common_steps) in
-    let e : take c.in-Bytes.count (c.read.new.into ++ drop c.min-room.result c.loop.buffer) ≡ take c.in-Bytes.count c.read.new.into = take-append-le c.in-Bytes.count c.read.new.into (drop c.min-room.result c.loop.buffer) within in
-    let s = subst (λ p. Sends (Some c.in-Some-send.end) c.loop.producer c.send.new.producer p) e c.in-Some-send.ensures.sent in
-    let t : length (sent c.loop.producer) + length (take c.in-Bytes.count c.read.new.into) ≡ c.loop.total + c.in-Bytes.count = grind (arith, common_steps) in
-    rw (d.end, d.ring) (spent_last c.in-Some-send.end (g.P.PipeIn.left c.send.new.pipe) (g.P.PipeIn.faults c.read.new.self) (g.P.PipeIn.faults c.send.new.pipe) c.loop.producer c.send.new.producer (take c.in-Bytes.count c.read.new.into) (c.loop.total + c.in-Bytes.count) s c.in-Some-send.ensures.ends t (grind (arith, common_steps)))
+    let e : c.deref.result.now ≡ c.read_piece.new.buffer.items = grind (arith, common_steps) in
+    let s = subst (λ xs. Sends (Some c.in-Some-send.end) c.loop.producer c.send.new.producer (take c.in-Bytes.count xs)) e c.in-Some-send.ensures.sent in
+    let t : length (sent c.loop.producer) + length (take c.in-Bytes.count c.read_piece.new.buffer.items) ≡ c.loop.total + c.in-Bytes.count = grind (arith, common_steps) in
+    rw (d.end, d.ring) (spent_last c.in-Some-send.end (g.P.PipeIn.left c.send.new.pipe) (g.P.PipeIn.faults c.read_piece.new.pipe) (g.P.PipeIn.faults c.send.new.pipe) c.loop.producer c.send.new.producer (take c.in-Bytes.count c.read_piece.new.buffer.items) (c.loop.total + c.in-Bytes.count) s c.in-Some-send.ensures.ends t (grind (arith, common_steps)))

@@ -1,4 +1,4 @@
-use Rattle.std.proofs.Common.{◌≡◌, ◌≤◌, ◌<◌, ◌^◌, length}
+use Rattle.std.proofs.Common.{◌≡◌, ◌≤◌, ◌<◌, ◌^◌, length, vec_len}
 use Rattle.std.specs.Io.KnownBytes.{Consumes}
 use Rattle.rtrb.specs.Ring.{sent, SameProducer}
 use Rattle.pipe_pump.proofs.from_pipe.pump_out.Given as goal
@@ -11,3 +11,4 @@ invariant-loop g l =
     × (g.P.PipeIn.faults l.fn.pipe ≤ g.P.PipeIn.faults l.pipe)
     × (length (sent l.producer) ≡ l.total)
     × (l.total < 2 ^ 62)
+    × (0 < vec_len l.buffer)

@@ -1,4 +1,4 @@
-use Rattle.std.proofs.Common.{◌≡◌, ◌≤◌, ◌<◌, ◌^◌, length}
+use Rattle.std.proofs.Common.{◌≡◌, ◌≤◌, ◌<◌, ◌^◌, length, vec_len}
 use Rattle.rtrb.specs.Ring.{received, SameConsumer}
 use Rattle.pipe_pump.specs.Hands.{IsMarkFor}
 use Rattle.pipe_pump.specs.Moved.{Moves}
@@ -12,4 +12,5 @@ invariant-loop g l =
     × (g.P.PipeOut.faults l.initial.pipe ≤ g.P.PipeOut.faults l.pipe)
     × (length (received l.consumer) ≡ l.total)
     × (l.total < 2 ^ 62)
+    × (0 < vec_len l.buffer)
     × IsMarkFor (received l.hand) l.consumer

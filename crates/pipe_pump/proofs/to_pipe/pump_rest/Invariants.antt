@@ -1,4 +1,4 @@
-use Rattle.std.proofs.Common.{◌≡◌, ◌≤◌, ◌<◌, ◌^◌, length}
+use Rattle.std.proofs.Common.{◌≡◌, ◌≤◌, ◌<◌, ◌^◌, length, vec_len}
 use Rattle.rtrb.specs.Ring.{received, SameConsumer, IsPair}
 use Rattle.pipe_pump.specs.Moved.{Moves}
 use Rattle.pipe_pump.proofs.to_pipe.pump_rest.Given as goal
@@ -12,3 +12,4 @@ invariant-loop g l =
     × (g.P.PipeOut.faults l.initial.pipe ≤ g.P.PipeOut.faults l.pipe)
     × (length (received l.consumer) ≡ l.total)
     × (l.total < 2 ^ 62)
+    × (0 < vec_len l.buffer)
