@@ -33,4 +33,7 @@ pub struct PumpDone<P> {
     pub end: PumpEnd,
     pub pipe: P,
     pub ring: RingEnd,
+    /// What it moved the bytes through. The thread of a pump gives no memory back: for its first such call libc makes a
+    /// heap of its own, and most threads end without another.
+    pub buffer: Vec<u8>,
 }

@@ -76,8 +76,8 @@ pub fn pump_out<R: Wait, P: PipeIn + Drop>(rt: &R, pipe: P, ring: PumpRing) -> P
         let room = buffer.len().min((MOST - total) as usize);
         let count = match read_piece(&mut pipe, &mut buffer, room) {
             PipeRead::Bytes(count) => count,
-            PipeRead::End => return done(PumpEnd::AtEnd, pipe, producer),
-            PipeRead::Failed => return done(PumpEnd::Broken, pipe, producer),
+            PipeRead::End => return done(PumpEnd::AtEnd, pipe, producer, buffer),
+            PipeRead::Failed => return done(PumpEnd::Broken, pipe, producer, buffer),
         };
         total += count as u64;
         let is_last = total == MOST;
@@ -89,7 +89,7 @@ pub fn pump_out<R: Wait, P: PipeIn + Drop>(rt: &R, pipe: P, ring: PumpRing) -> P
             &buffer[..count],
             is_last,
         ) {
-            return done(end, pipe, producer);
+            return done(end, pipe, producer, buffer);
         }
         grow(&mut buffer, count);
     }
@@ -122,7 +122,7 @@ fn read_front<P: PipeIn>(pipe: &mut P, buffer: &mut [u8], most: usize) -> PipeRe
     pipe.read(&mut buffer[..most])
 }
 
-fn done<P>(end: PumpEnd, pipe: P, producer: Producer<u8>) -> PumpDone<P>
+fn done<P>(end: PumpEnd, pipe: P, producer: Producer<u8>, buffer: Vec<u8>) -> PumpDone<P>
     ensures end { result.end ≡ end }
     ensures pipe { result.pipe ≡ pipe }
     ensures ring { result.ring ≡ Output producer }
@@ -131,6 +131,7 @@ fn done<P>(end: PumpEnd, pipe: P, producer: Producer<u8>) -> PumpDone<P>
         end,
         pipe,
         ring: RingEnd::Output(producer),
+        buffer,
     }
 }
 

@@ -48,7 +48,7 @@ pub fn pump_in<R: Wait, P: PipeOut + Drop>(rt: &R, ring: FeedRing, pipe: P) -> P
         &mut total,
         &mut buffer,
     ) {
-        Err(end) => done(end, pipe, consumer, None),
+        Err(end) => done(end, pipe, consumer, None, buffer),
         Ok(producer) => {
             let mut producer = producer;
             let end = pump_rest(
@@ -59,7 +59,7 @@ pub fn pump_in<R: Wait, P: PipeOut + Drop>(rt: &R, ring: FeedRing, pipe: P) -> P
                 &mut total,
                 &mut buffer,
             );
-            done(end, pipe, consumer, Some(producer))
+            done(end, pipe, consumer, Some(producer), buffer)
         }
     }
 }
@@ -69,6 +69,7 @@ fn done<P>(
     pipe: P,
     consumer: Consumer<u8>,
     producer: Option<Producer<u8>>,
+    buffer: Vec<u8>,
 ) -> PumpDone<P>
     ensures end { result.end ≡ end }
     ensures pipe { result.pipe ≡ pipe }
@@ -78,6 +79,7 @@ fn done<P>(
         end,
         pipe,
         ring: RingEnd::Input { consumer, producer },
+        buffer,
     }
 }
 

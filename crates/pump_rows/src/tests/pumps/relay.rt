@@ -113,7 +113,12 @@ pub fn relay<R: Threads + Wait + Copy + Drop + Send + 'static, P: PipeIn + Send 
     let pump = start(rt, Arc::try_clone(&ended)?, pipe, ring)?;
     let mut all = Vec::new(alloc);
     take_some(rt, &ended, &mut tap, &mut all)?;
-    let PumpDone { end, pipe, ring } = pump.join(rt);
+    let PumpDone {
+        end,
+        pipe,
+        ring,
+        ..
+    } = pump.join(rt);
     take_rest(alloc, &mut tap, ring, &mut all)?;
     Ok((all, end, pipe))
 }
