@@ -12,7 +12,6 @@ use host_trace::{EnterFault, Mode, World};
 use net_edge::NetMaker;
 use once_edge::OnceWorld;
 use std::alloc::Global;
-use std::mem::forget;
 use std::net::Net;
 use std::process::{Processes, SystemProcess};
 use std::sync::Wait;
@@ -108,16 +107,12 @@ impl<
         }
     }
 
-    // Takes one outside back. With its one connection the program ends, and the system takes back at once what that holds:
-    // to wake its threads and to give its memory back piece by piece would take longer.
+    // Takes one outside back.
     fn take_back(&mut self, back: RealOutside<R, T, K, L>)
         ensures { (self.new.out ≡ self.old.out) × (self.new.faults ≡ self.old.faults) }
     {
         match back {
-            Either::Once(mut outside) => {
-                outside.end();
-                forget(outside);
-            }
+            Either::Once(mut outside) => outside.end(),
             Either::Serve(outside) => self.net.take_one(outside),
         }
     }
