@@ -2,7 +2,7 @@
 # The edits under tests/edits: each of them the prover must refuse, as it must those of crates/CRATE/must-fail. `rt ci`
 # tries the latter alone; these would double its time. Which of these were refused is written down in tests/edits/refused,
 # each with a sum of its text and of the files of its crate, so that the gate can tell which crate has changed since. Where
-# `landed` stands behind a sum, this script hasn't tried the edit: the gate of a landing had, with these files.
+# `landed` stands behind a sum, this script hasn't tried the edit: `rt ci` refused it with these files before it stood here.
 #
 # usage: tests/edits.sh CRATE ..    tries those of these crates, over what was proved and kept, and writes down what was refused
 #        tests/edits.sh --all       .. those of all crates
@@ -44,7 +44,7 @@ case ${1:-} in
         END {
             for (crate in again) print "edits: " crate " has changed since its edits were refused: tests/edits.sh " crate
             for (edit in is) if (!(edit in was)) other++
-            printf "edits: none was tried; of those on the list %d were last refused in the gate of a landing, before they stood here\n", landed
+            printf "edits: none was tried; of those on the list %d were last refused by rt ci, before they stood here\n", landed
             printf "%d passed, %d failed, %d skipped\n", same, changed, other
             exit changed > 0
         }' "$room/lines" "$list"

@@ -1,5 +1,5 @@
 // A wait for many sockets.
-ghost use Rattle.std.specs.Prelude.{◌≡◌, ◌∷◌, [], IfOk, IfSome, IsNone};
+ghost use Rattle.std.specs.Prelude.{◌≡◌, ◌⊎◌, ◌∷◌, ◌++◌, [], IfOk, IfSome, IsNone};
 ghost use Rattle.net_sockets.specs.Nets.{RisesUnless};
 
 use mio::event::Event;
@@ -93,8 +93,10 @@ impl CountedPoll {
         }
     }
 
-    /// Has the listening socket reported once more.
-    pub fn remind(&mut self) {
+    /// Has the listening socket reported once more, if there is memory for that.
+    pub fn remind(&mut self)
+        ensures { (self.new.reports.items ≡ self.old.reports.items ++ Ready.Listener ∷ []) ⊎ (self.new.reports.items ≡ self.old.reports.items) }
+    {
         let _ = self.reports.push_back(Ready::Listener);
     }
 

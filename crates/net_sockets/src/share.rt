@@ -1,5 +1,6 @@
 // How clients are spread over the loops that share a listener.
-ghost use Rattle.std.specs.Prelude.{◌≡◌, ◌<◌, ℕ, Some, None, true, false, is_some, IsSome};
+ghost use Rattle.std.specs.Prelude.{◌≡◌, ◌<◌, ◌+◌, ◌-◌, ◌^◌, ℕ, Some, None, true, false, is_some, IsSome, IfOk};
+ghost use Rattle.std.specs.Arc.{arc_value};
 
 use std::alloc::{AllocError, Global};
 use std::sync::Arc;
@@ -31,7 +32,9 @@ impl Shares {
     }
 
     /// The same, for another loop.
-    pub fn another(&self) -> Result<Self, AllocError> {
+    pub fn another(&self) -> Result<Self, AllocError>
+        ensures { IfOk result (λ other. arc_value other.counts ≡ arc_value self.now.counts) }
+    {
         Ok(Shares {
             counts: Arc::try_clone(&self.counts)?,
         })
@@ -39,7 +42,8 @@ impl Shares {
 
     /// What one more loop has of the clients: none yet.
     pub fn join(self) -> Share
-        ensures { result.left_in ≡ None }
+        ensures counts { result.counts ≡ self.counts }
+        ensures none { (result.clients ≡ 0) × (result.left_in ≡ None) }
     {
         let Shares { counts } = self;
         counts.loops.fetch_add(1, Ordering::SeqCst);
@@ -98,7 +102,8 @@ impl Share {
 
     /// It has one client more.
     pub fn gain(&mut self)
-        ensures { self.new ≡ record self.old { clients = self.new.clients } }
+        ensures same { self.new ≡ record self.old { clients = self.new.clients } }
+        ensures more { self.old.clients < 2 ^ 64 - 1 → self.new.clients ≡ self.old.clients + 1 }
     {
         self.clients = self.clients.saturating_add(1);
         self.counts.clients.fetch_add(1, Ordering::SeqCst);
@@ -106,7 +111,8 @@ impl Share {
 
     /// .. and one less.
     pub fn lose(&mut self)
-        ensures { self.new ≡ record self.old { clients = self.new.clients } }
+        ensures same { self.new ≡ record self.old { clients = self.new.clients } }
+        ensures less { 0 < self.old.clients → self.new.clients + 1 ≡ self.old.clients }
     {
         self.clients = self.clients.saturating_sub(1);
         self.counts.clients.fetch_sub(1, Ordering::SeqCst);

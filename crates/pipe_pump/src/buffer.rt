@@ -30,7 +30,8 @@ impl Buffer {
     }
 
     pub fn into_bytes(self) -> Vec<u8>
-        ensures { 0 < vec_len result }
+        ensures same { result ≡ self.bytes }
+        ensures some { 0 < vec_len result }
     {
         let Buffer { bytes } = self;
         bytes

@@ -1,6 +1,8 @@
 // The examples of the format, and how they are written.
 use super::lines::{line_of, outcome, words_of};
+use host_base::Text;
 use site_file::{one_script, read_site, write_site};
+use std::alloc::{AllocError, Global};
 use std::test::Fail;
 
 const EXAMPLE: &str = "version = 1
@@ -50,33 +52,54 @@ root = \"/srv/b\"
 path = \"/t\"
 ";
 
-// The keys that stand in the examples, and the defaults of all others.
+// The keys that stand in the first example, and the defaults of all others.
 #[test]
-fn examples_are_read(rt: HostRuntime) -> Result<(), Fail> {
+fn the_first_example_is_read(rt: HostRuntime) -> Result<(), Fail> {
     let alloc = rt.alloc();
     let want =
         "127.0.0.1:8080; localhost* /srv/www /cgi-bin/hello=/srv/cgi/hello /ws=websocket:/srv/cgi/lines<http://example.com";
     assert_eq!(rt; outcome(alloc, EXAMPLE.as_bytes())?.as_str(), want);
-    let site = read_site(alloc, EXAMPLE.as_bytes()).ok().ok_or("refused")?;
-    assert_eq!(rt; site.limits.run_ticks, 600);
-    assert_eq!(rt; site.limits.head, 16_384);
+    Ok(())
+}
+
+#[test]
+fn limits_have_defaults(rt: HostRuntime) -> Result<(), Fail> {
+    let site = read_site(rt.alloc(), EXAMPLE.as_bytes())
+        .ok()
+        .ok_or("refused")?;
+    assert_eq!(rt; (site.limits.run_ticks, site.limits.head), (600, 16_384));
+    Ok(())
+}
+
+#[test]
+fn the_second_example_is_read(rt: HostRuntime) -> Result<(), Fail> {
+    let alloc = rt.alloc();
     let want =
         "127.0.0.1:8080; a.example,www.a.example /srv/www /s=/srv/cgi/s /d=documents:0; b.example* /srv/b /t=documents:1; docs /srv/d html=text/html txt=text/plain; docs /srv/www";
     assert_eq!(rt; outcome(alloc, SECOND.as_bytes())?.as_str(), want);
-    let one = match one_script(alloc, "/s", "/bin/cat") {
-        Ok(site) => line_of(alloc, &site)?,
-        Err(fault) => words_of(alloc, &fault)?,
-    };
-    assert_eq!(rt;
-        one.as_str(),
-        "127.0.0.1:8080; localhost* /srv/www /s=/bin/cat"
-    );
+    Ok(())
+}
+
+// The site of one script, or its fault.
+fn one_said(alloc: Global, path: &str, program: &str) -> Result<String, AllocError> {
+    match one_script(alloc, path, program) {
+        Ok(site) => line_of(alloc, &site),
+        Err(fault) => words_of(alloc, &fault),
+    }
+}
+
+#[test]
+fn one_script_is_a_site(rt: HostRuntime) -> Result<(), Fail> {
     for (path, program, want) in [
+        (
+            "/s",
+            "/bin/cat",
+            "127.0.0.1:8080; localhost* /srv/www /s=/bin/cat",
+        ),
         ("s", "cat", "out of range script[0].path"),
         ("/s", "/bin/", "out of range script[0].program"),
     ] {
-        let fault = one_script(alloc, path, program).err().ok_or("taken")?;
-        assert_eq!(rt; words_of(alloc, &fault)?.as_str(), want);
+        assert_eq!(rt; one_said(rt.alloc(), path, program)?.as_str(), want);
     }
     Ok(())
 }
@@ -116,24 +139,26 @@ target = 8000
 ws_text = 65536
 ";
 
-// How a site is spelled, and that it reads back, documents too.
+// What is written of the site of a text.
+fn written(alloc: Global, text: &str) -> Result<Text, Fail> {
+    match read_site(alloc, text.as_bytes()) {
+        Ok(site) => Ok(write_site(alloc, &site)?),
+        Err(_) => Err("refused".into()),
+    }
+}
+
 #[test]
 fn sites_are_written(rt: HostRuntime) -> Result<(), Fail> {
+    assert_eq!(rt; written(rt.alloc(), EXAMPLE)?.as_str(), WRITTEN);
+    Ok(())
+}
+
+#[test]
+fn what_is_written_reads_back(rt: HostRuntime) -> Result<(), Fail> {
     let alloc = rt.alloc();
-    for (text, want) in [(EXAMPLE, WRITTEN), (SECOND, "")] {
-        match read_site(alloc, text.as_bytes()) {
-            Ok(site) => {
-                let written = write_site(alloc, &site)?;
-                if !want.is_empty() {
-                    assert_eq!(rt; written.as_str(), want);
-                }
-                assert_eq!(rt;
-                    outcome(alloc, written.as_bytes())?.as_str(),
-                    line_of(alloc, &site)?.as_str()
-                );
-            }
-            Err(fault) => assert_eq!(rt; words_of(alloc, &fault)?.as_str(), ""),
-        }
+    for text in [EXAMPLE, SECOND] {
+        let again = outcome(alloc, written(alloc, text)?.as_bytes())?;
+        assert_eq!(rt; again.as_str(), outcome(alloc, text.as_bytes())?.as_str());
     }
     Ok(())
 }
