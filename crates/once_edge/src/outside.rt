@@ -15,9 +15,12 @@ use std::sync::Wait;
 use std::thread::yield_now;
 use std::time::{Clock, Duration};
 
-// How many bytes of the client are read at a time, as many as its pump moves. Each page of the buffer is a fault of two
-// microseconds at the start of a request.
-const PIECE: usize = 16_384;
+// How many bytes of the client are taken at a time at first: most requests are shorter, and each page that is touched
+// costs.
+const SMALL: usize = 4_096;
+
+// .. and once a piece was as long as that.
+const LARGE: usize = 65_536;
 
 // How often it lets others run before it sleeps. An exit comes 50 to 120 microseconds after the end of the output, and
 // a turn takes about one.
@@ -121,7 +124,7 @@ impl<
             unstarted: None,
             cut: false,
             stopped: false,
-            buffer: vec![in alloc; 0u8; PIECE]?,
+            buffer: vec![in alloc; 0u8; SMALL]?,
             limit,
             faults: 0,
         })
@@ -331,7 +334,20 @@ impl<
         ensures none { IsNone result → OnClient Rests self.old self.new }
     {
         self.wake_client();
-        self.client.ask(self.alloc, 0, self.buffer.as_mut_slice())
+        let event = self.client.ask(self.alloc, 0, self.buffer.as_mut_slice())?;
+        self.make_room(&event);
+        Some(event)
+    }
+
+    // Has the buffer be large once a piece filled it. Where there is no memory for that it stays as it is.
+    fn make_room(&mut self, event: &Event)
+        ensures { self.new ≡ self.old }
+    {
+        if let Event::ClientBytes { bytes, .. } = event {
+            if bytes.len() == self.buffer.len() && bytes.len() < LARGE {
+                let _ = self.buffer.resize(LARGE, 0);
+            }
+        }
     }
 
     // The bytes of the client may have come, and it may take some.
