@@ -84,6 +84,18 @@ if has wget; then
     if [ "$(wget -q -T 20 -t 1 -O - "$url/hi")" = hi ]; then ok; else bad 'wget'; fi
 fi
 
+# ---- once a program has exited nothing wakes its loop between two ticks
+if [ -z "$loops" ]; then
+    slept=0
+    for _ in 1 2 3 4 5; do
+        plays kept
+        before=$(sleeps)
+        sleep 0.4
+        slept=$((slept + $(sleeps) - before))
+    done
+    if [ "$slept" -le 28 ]; then ok; else bad "it slept $slept times in 2 s behind programs that had exited"; fi
+fi
+
 # ---- requests of all kinds
 plays kept
 plays bytewise

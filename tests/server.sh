@@ -98,6 +98,11 @@ ran() {
     awk '{ print $14 + $15 }' "/proc/$server/stat"
 }
 
+# How often its first thread has gone to sleep.
+sleeps() {
+    awk '/^voluntary/ { print $2 }' "/proc/$server/task/$server/status"
+}
+
 memory() {
     awk '/VmRSS/ { print $2 }' "/proc/$server/status"
 }

@@ -17,7 +17,7 @@ use std::sync::Wait;
 use std::thread::yield_now;
 
 // After a child is to leave, as at the end of its output, all are asked so often with no wait: an exit comes soon.
-const SOON: u32 = 16;
+const SOON: u32 = 32;
 
 // Then the shortest and the longest wait, in milliseconds. What nothing wakes the loop for, as an exit, is asked for
 // after each.
@@ -189,22 +189,35 @@ impl<
         }
     }
 
-    // Waits until a client, a child or the clock has something to tell.
+    // Waits until a client, a child or the clock has something to tell. Where that comes soon, all are asked again
+    // instead, once others ran.
     fn rest(&mut self)
         ensures quiet { IsQuiet S.Kid.tells self.old self.new }
         ensures counts { Counts self.old self.new }
     {
+        if self.is_soon() {
+            yield_now();
+            return;
+        }
         let millis = self.next_pause();
         self.sockets.wait(millis);
     }
 
+    // Counts how often it doesn't wait.
+    fn is_soon(&mut self) -> bool
+        ensures { self.new ≡ self.old }
+    {
+        let soon = self.soon > 0;
+        self.soon = self.soon.saturating_sub(1);
+        soon
+    }
+
+    // How long it waits at most. Without a child there is nothing but what wakes it, and the next tick.
     fn next_pause(&mut self) -> u64
         ensures { self.new ≡ self.old }
     {
-        if self.soon > 0 {
-            self.soon -= 1;
-            yield_now();
-            return 0;
+        if self.children.is_empty() {
+            self.pause = MOST;
         }
         let pause = self.pause;
         self.pause = pause.saturating_mul(2).clamp(LEAST, MOST);
