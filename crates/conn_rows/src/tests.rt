@@ -13,6 +13,8 @@ mod talks;
 use host_base::NoMemory;
 use play::{Row, row_of, run_row};
 use std::alloc::Global;
+use std::process::Abort;
+use std::test::Fail;
 
 // How many rows a table has.
 fn count_of(table: &str) -> usize {
@@ -41,4 +43,12 @@ fn check(alloc: Global, table: &str) -> Result<String, NoMemory> {
         }
     }
     Ok(String::new(alloc))
+}
+
+// Each row of a table of so many goes as it must.
+fn rows_go<R: Abort>(rt: &R, alloc: Global, table: &str, count: usize) -> Result<(), Fail> {
+    assert_eq!(rt; count_of(table), count);
+    let said = check(alloc, table)?;
+    assert_eq!(rt; said.as_str(), "");
+    Ok(())
 }

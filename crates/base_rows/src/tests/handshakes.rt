@@ -51,11 +51,10 @@ fn fields_with(alloc: Global, changes: &[Change]) -> Result<Fields, NoMemory> {
     Ok(fields)
 }
 
-fn request_of(
-    alloc: Global,
-    start: (&str, Version, Framing),
-    changes: &[Change],
-) -> Result<Request, NoMemory> {
+// A method, a version and a framing.
+type Start<'a> = (&'a str, Version, Framing);
+
+fn request_of(alloc: Global, start: Start, changes: &[Change]) -> Result<Request, NoMemory> {
     Ok(Request {
         method: Bytes::from_slice(alloc, start.0.as_bytes())?,
         target: Target {
@@ -213,12 +212,24 @@ const BY_FIELDS: [(&[Change], Result<&str, Cause>); 38] = [
     ),
 ];
 
+const START: Start<'static> = ("GET", Version::V11, Framing::Empty);
+
+// Whether a request is answered so where any origin is taken.
+fn is_judged(
+    alloc: Global,
+    start: Start,
+    changes: &[Change],
+    answer: Result<&str, Cause>,
+) -> Result<bool, NoMemory> {
+    let request = request_of(alloc, start, changes)?;
+    Ok(is_answered(&request, None, answer))
+}
+
 #[test]
 fn fields_are_judged(rt: HostRuntime) -> Result<(), Fail> {
-    let start = ("GET", Version::V11, Framing::Empty);
     for (changes, answer) in BY_FIELDS.iter() {
-        let request = request_of(rt.alloc(), start, changes)?;
-        assert!(rt; is_answered(&request, None, *answer), "{changes:?}");
+        let judged = is_judged(rt.alloc(), START, changes, *answer)?;
+        assert!(rt; judged, "{changes:?}");
     }
     Ok(())
 }
@@ -273,11 +284,8 @@ const BY_START: [(&str, Version, Framing, Result<&str, Cause>); 8] = [
 #[test]
 fn request_lines_and_bodies_are_judged(rt: HostRuntime) -> Result<(), Fail> {
     for (method, version, framing, answer) in BY_START.iter() {
-        let request = request_of(rt.alloc(), (method, *version, *framing), &[])?;
-        assert!(rt;
-            is_answered(&request, None, *answer),
-            "{method} {framing:?}"
-        );
+        let judged = is_judged(rt.alloc(), (method, *version, *framing), &[], *answer)?;
+        assert!(rt; judged, "{method} {framing:?}");
     }
     Ok(())
 }
@@ -331,16 +339,23 @@ const BY_ORIGIN: [(&[Change], &[&str], Result<&str, Cause>); 12] = [
     ),
 ];
 
+// Whether a request is answered so where these origins are taken.
+fn is_judged_by_origin(
+    alloc: Global,
+    changes: &[Change],
+    origins: &[&str],
+    answer: Result<&str, Cause>,
+) -> Result<bool, NoMemory> {
+    let origins = texts_of(alloc, origins)?;
+    let request = request_of(alloc, START, changes)?;
+    Ok(is_answered(&request, Some(&origins), answer))
+}
+
 #[test]
 fn origins_are_judged(rt: HostRuntime) -> Result<(), Fail> {
-    let start = ("GET", Version::V11, Framing::Empty);
     for (changes, origins, answer) in BY_ORIGIN.iter() {
-        let request = request_of(rt.alloc(), start, changes)?;
-        let origins = texts_of(rt.alloc(), origins)?;
-        assert!(rt;
-            is_answered(&request, Some(&origins), *answer),
-            "{changes:?}"
-        );
+        let judged = is_judged_by_origin(rt.alloc(), changes, origins, *answer)?;
+        assert!(rt; judged, "{changes:?}");
     }
     Ok(())
 }

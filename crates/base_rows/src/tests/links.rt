@@ -101,38 +101,61 @@ fn log_of(alloc: Global, bytes: &[u8], cut: usize, size: usize) -> Result<Log, N
     Ok(log)
 }
 
+fn is_cut_heard(
+    alloc: Global,
+    bytes: &[u8],
+    (cut, size): (usize, usize),
+    words: &[u8],
+    sent: &[u8],
+) -> Result<bool, NoMemory> {
+    let log = log_of(alloc, bytes, cut, size)?;
+    Ok(log.words.as_slice() == words && log.sent.as_slice() == sent)
+}
+
 // Whether bytes give these words and are answered so, wherever they are cut.
 fn is_heard(alloc: Global, bytes: &[u8], words: &[u8], sent: &[u8]) -> Result<bool, NoMemory> {
     for cut in 0..bytes.len().min(200) + 1 {
-        let in_two = log_of(alloc, bytes, cut, bytes.len())?;
-        let in_bytes = log_of(alloc, bytes, cut, 1)?;
-        if in_two.words.as_slice() != words || in_two.sent.as_slice() != sent {
-            return Ok(false);
-        }
-        if in_bytes.words.as_slice() != words || in_bytes.sent.as_slice() != sent {
+        let in_two = is_cut_heard(alloc, bytes, (cut, bytes.len()), words, sent)?;
+        if !in_two || !is_cut_heard(alloc, bytes, (cut, 1), words, sent)? {
             return Ok(false);
         }
     }
     Ok(true)
 }
 
+// Whether this and no more is to be sent.
+fn sends(link: &mut Link, due: &[u8]) -> bool {
+    link.take_out().as_slice() == due && link.take_out().is_empty()
+}
+
+fn sends_hello(alloc: Global) -> Result<bool, NoMemory> {
+    let mut link = Link::new(alloc, b"")?;
+    Ok(link.say("Hello") == Said::Done && sends(&mut link, b"\x81\x05Hello"))
+}
+
+// What a client sends, the words that it gives, and what is sent.
+const EXAMPLES: [(&[u8], &[u8], &[u8]); 3] = [
+    (
+        b"\x81\x85\x37\xfa\x21\x3d\x7f\x9f\x4d\x51\x58",
+        b"Hello|",
+        b"",
+    ),
+    (
+        b"\x89\x85\x37\xfa\x21\x3d\x7f\x9f\x4d\x51\x58",
+        b"",
+        b"\x8a\x05Hello",
+    ),
+    // An unmasked frame must be refused (RFC 6455 5.1).
+    (b"\x81\x05Hello", b"!", b""),
+];
+
 // The examples of RFC 6455 5.7, as a client sends them and as a server does.
 #[test]
 fn examples_of_the_standard(rt: HostRuntime) -> Result<(), Fail> {
-    let hello = [
-        0x81, 0x85, 0x37, 0xfa, 0x21, 0x3d, 0x7f, 0x9f, 0x4d, 0x51, 0x58,
-    ];
-    assert!(rt; is_heard(rt.alloc(), &hello, b"Hello|", b"")?);
-    let ping = [
-        0x89, 0x85, 0x37, 0xfa, 0x21, 0x3d, 0x7f, 0x9f, 0x4d, 0x51, 0x58,
-    ];
-    assert!(rt; is_heard(rt.alloc(), &ping, b"", b"\x8a\x05Hello")?);
-    let mut link = Link::new(rt.alloc(), b"")?;
-    assert!(rt; link.say("Hello") == Said::Done);
-    assert!(rt; link.take_out().as_slice() == b"\x81\x05Hello".as_slice());
-    assert!(rt; link.take_out().is_empty());
-    // An unmasked frame must be refused (RFC 6455 5.1).
-    assert!(rt; is_heard(rt.alloc(), b"\x81\x05Hello", b"!", b"")?);
+    for (bytes, words, sent) in EXAMPLES.iter() {
+        assert!(rt; is_heard(rt.alloc(), bytes, words, sent)?, "{bytes:?}");
+    }
+    assert!(rt; sends_hello(rt.alloc())?);
     Ok(())
 }
 
@@ -206,25 +229,46 @@ const TAKEN: [(&[Frame], &[u8], &[u8]); 15] = [
     ),
 ];
 
+// Whether frames give these words and are answered so.
+fn are_heard(alloc: Global, list: &[Frame], words: &[u8], sent: &[u8]) -> Result<bool, NoMemory> {
+    let bytes = frames(alloc, list)?;
+    is_heard(alloc, bytes.as_slice(), words, sent)
+}
+
 #[test]
 fn frames_are_taken(rt: HostRuntime) -> Result<(), Fail> {
     for (list, words, sent) in TAKEN.iter() {
-        let bytes = frames(rt.alloc(), list)?;
-        assert!(rt;
-            is_heard(rt.alloc(), bytes.as_slice(), words, sent)?,
-            "{list:?}"
-        );
+        let heard = are_heard(rt.alloc(), list, words, sent)?;
+        assert!(rt; heard, "{list:?}");
     }
-    let most = frames(rt.alloc(), &[(0x89, &MOST)])?;
-    let log = log_of(rt.alloc(), most.as_slice(), 0, 1)?;
-    assert!(rt; log.words.is_empty() && log.sent.len() == 127);
-    // What is sent to a peer that only pings has fewer bytes than what came.
-    let mut pings = Vec::new(rt.alloc());
+    Ok(())
+}
+
+fn is_longest_ping_answered(alloc: Global) -> Result<bool, NoMemory> {
+    let most = frames(alloc, &[(0x89, &MOST)])?;
+    let log = log_of(alloc, most.as_slice(), 0, 1)?;
+    Ok(log.words.is_empty() && log.sent.len() == 127)
+}
+
+fn push_pings(bytes: &mut Vec<u8>) -> Result<(), NoMemory> {
     for _ in 0..1_000 {
-        push_frame(&mut pings, 0x89, b"x")?;
+        push_frame(bytes, 0x89, b"x")?;
     }
-    let log = log_of(rt.alloc(), pings.as_slice(), 0, 7_000)?;
-    assert!(rt; pings.len() == 7_000 && log.sent.len() == 3_000);
+    Ok(())
+}
+
+// What is sent to a peer that only pings has fewer bytes than what came.
+fn are_pings_answered(alloc: Global) -> Result<bool, NoMemory> {
+    let mut pings = Vec::new(alloc);
+    push_pings(&mut pings)?;
+    let log = log_of(alloc, pings.as_slice(), 0, 7_000)?;
+    Ok(pings.len() == 7_000 && log.sent.len() == 3_000)
+}
+
+#[test]
+fn pings_are_answered(rt: HostRuntime) -> Result<(), Fail> {
+    assert!(rt; is_longest_ping_answered(rt.alloc())?);
+    assert!(rt; are_pings_answered(rt.alloc())?);
     Ok(())
 }
 
@@ -265,43 +309,56 @@ const REFUSED: [(&[Frame], &[u8]); 25] = [
 #[test]
 fn frames_are_refused(rt: HostRuntime) -> Result<(), Fail> {
     for (list, words) in REFUSED.iter() {
-        let bytes = frames(rt.alloc(), list)?;
-        assert!(rt;
-            is_heard(rt.alloc(), bytes.as_slice(), words, b"")?,
-            "{list:?}"
-        );
+        let heard = are_heard(rt.alloc(), list, words, b"")?;
+        assert!(rt; heard, "{list:?}");
     }
-    // A frame of 2 MiB and one byte, and one whose length has its first bit set.
-    assert!(rt;
-        is_heard(
-            rt.alloc(),
-            b"\x81\xff\x00\x00\x00\x00\x00\x20\x00\x01\x37\xfa\x21\x3d",
-            b"!",
-            b""
-        )?
-    );
-    assert!(rt;
-        is_heard(
-            rt.alloc(),
-            b"\x81\xff\x80\x00\x00\x00\x00\x00\x00\x00\x37\xfa\x21\x3d",
-            b"!",
-            b""
-        )?
-    );
     Ok(())
+}
+
+// A frame of 2 MiB and one byte, and one whose length has its first bit set.
+#[test]
+fn long_frames_are_refused(rt: HostRuntime) -> Result<(), Fail> {
+    for front in [
+        b"\x81\xff\x00\x00\x00\x00\x00\x20\x00\x01\x37\xfa\x21\x3d".as_slice(),
+        b"\x81\xff\x80\x00\x00\x00\x00\x00\x00\x00\x37\xfa\x21\x3d",
+    ] {
+        assert!(rt; is_heard(rt.alloc(), front, b"!", b"")?, "{front:?}");
+    }
+    Ok(())
+}
+
+fn word_count(alloc: Global, bytes: &[u8], size: usize) -> Result<usize, NoMemory> {
+    let log = log_of(alloc, bytes, 0, size)?;
+    Ok(log.words.len())
+}
+
+// Whether a message of 2 MiB in one frame is given however its bytes come.
+fn is_given_whole(alloc: Global, message: &[u8]) -> Result<bool, NoMemory> {
+    let whole = frames(alloc, &[(0x81, message)])?;
+    for size in [1_000, 65_536, 4_194_304] {
+        if word_count(alloc, whole.as_slice(), size)? != 2_097_153 {
+            return Ok(false);
+        }
+    }
+    Ok(true)
+}
+
+// Whether one byte more in a second frame is refused.
+fn is_bounded(alloc: Global, message: &[u8]) -> Result<bool, NoMemory> {
+    let parts = frames(alloc, &[(0x01, message), (0x80, b"a")])?;
+    let log = log_of(alloc, parts.as_slice(), 0, 65_536)?;
+    Ok(log.words.as_slice() == b"!".as_slice())
+}
+
+fn are_bounded(alloc: Global) -> Result<bool, NoMemory> {
+    let most = vec![in alloc; b'a'; 2_097_152]?;
+    let most = most.as_slice();
+    Ok(is_given_whole(alloc, most)? && is_bounded(alloc, most)?)
 }
 
 #[test]
 fn large_messages_are_bounded(rt: HostRuntime) -> Result<(), Fail> {
-    let most = vec![in rt.alloc(); b'a'; 2_097_152]?;
-    let whole = frames(rt.alloc(), &[(0x81, most.as_slice())])?;
-    for size in [1_000, 65_536, 4_194_304] {
-        let log = log_of(rt.alloc(), whole.as_slice(), 0, size)?;
-        assert!(rt; log.words.len() == 2_097_153, "{size}");
-    }
-    let parts = frames(rt.alloc(), &[(0x01, most.as_slice()), (0x80, b"a")])?;
-    let log = log_of(rt.alloc(), parts.as_slice(), 0, 65_536)?;
-    assert!(rt; log.words.as_slice() == b"!".as_slice());
+    assert!(rt; are_bounded(rt.alloc())?);
     Ok(())
 }
 
@@ -318,21 +375,37 @@ const CODES: [(u16, Said); 9] = [
     (999, Said::Refused),
 ];
 
+fn push_close(due: &mut Vec<u8>, code: u16) -> Result<(), NoMemory> {
+    let [high, low] = code.to_be_bytes();
+    due.extend_from_slice(&[0x88, 2, high, low])?;
+    Ok(())
+}
+
+// A text, an empty one, and the close where it is taken.
+fn due_of(alloc: Global, code: u16, said: Said) -> Result<Vec<u8>, NoMemory> {
+    let mut due = [0x81, 3, 0xe2, 0x82, 0xac, 0x81, 0].to_vec(alloc)?;
+    if said == Said::Done {
+        push_close(&mut due, code)?;
+    }
+    Ok(due)
+}
+
+// Whether two texts and a close are taken so. Nothing is said behind a close (RFC 6455 5.5.1).
+fn takes(link: &mut Link, code: u16, said: Said) -> bool {
+    let texts = link.say("\u{20ac}") == Said::Done && link.say("") == Said::Done;
+    texts && link.close(code) == said && (said != Said::Done || link.say("a") == Said::Refused)
+}
+
+fn is_closed_so(alloc: Global, code: u16, said: Said) -> Result<bool, NoMemory> {
+    let due = due_of(alloc, code, said)?;
+    let mut link = Link::new(alloc, b"")?;
+    Ok(takes(&mut link, code, said) && sends(&mut link, due.as_slice()))
+}
+
 #[test]
 fn texts_and_closes_are_sent(rt: HostRuntime) -> Result<(), Fail> {
     for (code, said) in CODES {
-        let mut link = Link::new(rt.alloc(), b"")?;
-        assert!(rt; link.say("\u{20ac}") == Said::Done);
-        assert!(rt; link.say("") == Said::Done);
-        assert!(rt; link.close(code) == said, "{code}");
-        let [high, low] = code.to_be_bytes();
-        let mut due = [0x81, 3, 0xe2, 0x82, 0xac, 0x81, 0].to_vec(rt.alloc())?;
-        if said == Said::Done {
-            due.extend_from_slice(&[0x88, 2, high, low])?;
-            // Nothing is said behind a close (RFC 6455 5.5.1).
-            assert!(rt; link.say("a") == Said::Refused, "{code}");
-        }
-        assert!(rt; link.take_out().as_slice() == due.as_slice(), "{code}");
+        assert!(rt; is_closed_so(rt.alloc(), code, said)?, "{code}");
     }
     Ok(())
 }

@@ -261,15 +261,20 @@ fn grown(alloc: Global) -> Result<Bytes, NoMemory> {
     Ok(bytes)
 }
 
-#[test]
-fn bytes_there_and_back(rt: HostRuntime) -> Result<(), Fail> {
-    let bytes = grown(rt.alloc())?;
-    assert_eq!(rt; bytes.len(), 4);
-    assert!(rt; !bytes.is_empty());
+fn has_four(bytes: &Bytes) -> bool {
+    bytes.len() == 4 && !bytes.is_empty() && bytes.as_slice() == b"abcd".as_slice()
+}
+
+fn are_bytes_kept(alloc: Global) -> Result<bool, NoMemory> {
+    let bytes = grown(alloc)?;
     let copy = bytes.clone()?;
     let back = Bytes::from_vec(bytes.into_vec());
-    assert_eq!(rt; back.as_slice(), b"abcd".as_slice());
-    assert_eq!(rt; copy.as_slice(), b"abcd".as_slice());
+    Ok(has_four(&copy) && has_four(&back))
+}
+
+#[test]
+fn bytes_there_and_back(rt: HostRuntime) -> Result<(), Fail> {
+    assert!(rt; are_bytes_kept(rt.alloc())?);
     assert!(rt; Bytes::new(rt.alloc()).is_empty());
     Ok(())
 }
@@ -281,15 +286,26 @@ fn texts(alloc: Global) -> Result<Texts, NoMemory> {
     Ok(texts)
 }
 
+fn has_six_bytes(text: &Text) -> bool {
+    text.as_str() == "d\u{e9}j\u{e0}" && text.len() == 6 && text.as_bytes().len() == 6
+}
+
+fn is_text_kept(alloc: Global) -> Result<bool, NoMemory> {
+    let text = Text::from_string("d\u{e9}j\u{e0}".to_string(alloc)?);
+    Ok(has_six_bytes(&text) && text.into_string().as_str() == "d\u{e9}j\u{e0}")
+}
+
+fn is_last_empty(alloc: Global) -> Result<bool, NoMemory> {
+    match texts(alloc)?.into_vec().pop() {
+        Some(last) => Ok(last.is_empty()),
+        None => Ok(false),
+    }
+}
+
 #[test]
 fn texts_there_and_back(rt: HostRuntime) -> Result<(), Fail> {
-    let text = Text::from_string("d\u{e9}j\u{e0}".to_string(rt.alloc())?);
-    assert_eq!(rt; text.as_str(), "d\u{e9}j\u{e0}");
-    assert_eq!(rt; text.len(), 6);
-    assert_eq!(rt; text.as_bytes().len(), 6);
-    assert_eq!(rt; text.into_string().as_str(), "d\u{e9}j\u{e0}");
-    let last = texts(rt.alloc())?.into_vec().pop().ok_or("none")?;
-    assert!(rt; last.is_empty());
+    assert!(rt; is_text_kept(rt.alloc())?);
+    assert!(rt; is_last_empty(rt.alloc())?);
     Ok(())
 }
 
@@ -318,14 +334,27 @@ fn launch(alloc: Global) -> Result<Launch, NoMemory> {
     })
 }
 
+fn is_hello(launch: &Launch) -> bool {
+    launch.program.as_str() == "/srv/cgi/hello"
+        && launch.dir.as_str() == "/srv/cgi"
+        && launch.args.len() == 2
+}
+
+fn has_a_query(env: Pairs) -> bool {
+    match env.into_vec().pop() {
+        Some(last) => last.name.as_str() == "QUERY_STRING",
+        None => false,
+    }
+}
+
+fn is_launch_copied(alloc: Global) -> Result<bool, NoMemory> {
+    let launch = launch(alloc)?.copy()?;
+    Ok(is_hello(&launch) && has_a_query(launch.env))
+}
+
 #[test]
 fn launches(rt: HostRuntime) -> Result<(), Fail> {
-    let launch = launch(rt.alloc())?.copy()?;
-    assert_eq!(rt; launch.program.as_str(), "/srv/cgi/hello");
-    assert_eq!(rt; launch.dir.as_str(), "/srv/cgi");
-    assert_eq!(rt; launch.args.len(), 2);
-    let last = launch.env.into_vec().pop().ok_or("none")?;
-    assert_eq!(rt; last.name.as_str(), "QUERY_STRING");
+    assert!(rt; is_launch_copied(rt.alloc())?);
     Ok(())
 }
 

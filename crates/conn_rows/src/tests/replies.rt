@@ -1,8 +1,8 @@
 // Replies: whole, streamed, cut off.
-use super::{check, count_of};
+use super::rows_go;
 use std::test::Fail;
 
-pub const ROWS: &str = r"
+const ROWS: &str = r"
 P = GET /cgi-bin/hello HTTP/1.1\r\nHost: a\r\nConnection: close\r\n\r\n
 START = Start 0 0 0 /srv/cgi/hello
 HI = Content-Type: text/plain\n\nhi\n
@@ -441,10 +441,11 @@ OutEnd 0
     WantClient
 ";
 
+pub fn rows() -> &'static str {
+    ROWS
+}
+
 #[test]
 fn replies_are_written(rt: HostRuntime) -> Result<(), Fail> {
-    assert_eq!(rt; count_of(ROWS), 30);
-    let said = check(rt.alloc(), ROWS)?;
-    assert_eq!(rt; said.as_str(), "");
-    Ok(())
+    rows_go(&rt, rt.alloc(), rows(), 30)
 }

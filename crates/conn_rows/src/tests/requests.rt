@@ -1,8 +1,8 @@
 // Requests: how they come, and what is refused.
-use super::{check, count_of};
+use super::rows_go;
 use std::test::Fail;
 
-pub const ROWS: &str = r"
+const ROWS: &str = r"
 EARLY_END = Write HTTP/1.1 400 Bad Request\r\nContent-Type: text/plain\r\nContent-Length: 20\r\nConnection: close\r\n\r\nrequest ended early\n
 TOO_SLOW = Write HTTP/1.1 408 Request Timeout\r\nContent-Type: text/plain\r\nDate: Thu, 01 Jan 1970 00:00:00 GMT\r\nContent-Length: 22\r\nConnection: close\r\n\r\nrequest took too long\n
 BAD_HEAD = Write HTTP/1.1 400 Bad Request\r\nContent-Type: text/plain\r\nContent-Length: 17\r\nConnection: close\r\n\r\nbad request head\n
@@ -165,10 +165,11 @@ End
     Shut Done
 ";
 
+pub fn rows() -> &'static str {
+    ROWS
+}
+
 #[test]
 fn requests_are_read_and_refused(rt: HostRuntime) -> Result<(), Fail> {
-    assert_eq!(rt; count_of(ROWS), 18);
-    let said = check(rt.alloc(), ROWS)?;
-    assert_eq!(rt; said.as_str(), "");
-    Ok(())
+    rows_go(&rt, rt.alloc(), rows(), 18)
 }

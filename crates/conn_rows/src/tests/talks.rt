@@ -1,14 +1,14 @@
 // A handshake, and what is said over the WebSocket then (RFC 6455 4.2.2).
 ghost use Rattle.host_base.specs.SiteRules.{IsServed};
 
-use super::play::{record, row_of};
-use super::{check, count_of};
+use super::play::{Row, record, row_of};
+use super::{count_of, rows_go};
 use host_base::{NoMemory, Site};
 use site_file::read_site;
 use std::alloc::Global;
 use std::test::Fail;
 
-pub const ROWS: &str = r"
+const ROWS: &str = r"
 NO_ORIGIN = Write HTTP/1.1 403 Forbidden\r\nContent-Type: text/plain\r\nContent-Length: 15\r\n\r\norigin refused\n
 SWITCHED = Write HTTP/1.1 101 Switching Protocols\r\nUpgrade: websocket\r\nConnection: Upgrade\r\nSec-WebSocket-Accept: s3pPLMBiTxaQ9kYGzzhZRbK+xOo=\r\n\r\n
 HANDSHAKE = GET /ws HTTP/1.1\r\nHost: a\r\nUpgrade: websocket\r\nConnection: keep-alive, Upgrade\r\nSec-WebSocket-Key: dGhlIHNhbXBsZSBub25jZQ==\r\nSec-WebSocket-Version: 13\r\n\r\n
@@ -378,21 +378,18 @@ Exited 0
     Release 0
 ";
 
-fn check_both(alloc: Global) -> Result<String, NoMemory> {
-    let said = check(alloc, ROWS)?;
-    if !said.as_str().is_empty() {
-        return Ok(said);
-    }
-    check(alloc, OTHERS)
+pub fn rows() -> &'static str {
+    ROWS
 }
 
 #[test]
 fn a_handshake_leads_to_a_talk(rt: HostRuntime) -> Result<(), Fail> {
-    assert_eq!(rt; count_of(ROWS), 17);
-    assert_eq!(rt; count_of(OTHERS), 4);
-    let said = check_both(rt.alloc())?;
-    assert_eq!(rt; said.as_str(), "");
-    Ok(())
+    rows_go(&rt, rt.alloc(), rows(), 17)
+}
+
+#[test]
+fn talks_that_depend_on_a_cut_or_on_memory(rt: HostRuntime) -> Result<(), Fail> {
+    rows_go(&rt, rt.alloc(), OTHERS, 4)
 }
 
 const SHORT_LINES: &str = "version = 1
@@ -424,11 +421,15 @@ Out 0 abcd\nabcde
 
 const TALK_END: &str = "CloseWs 1011\nEndInput 0\nKill 0\nShut Done\n--\n";
 
+fn long_line<'t>(table: &'t str) -> Row<'t> {
+    row_of(table, table.split("\n== ").nth(1).unwrap_or(""))
+}
+
 // Whether the first line is said, and the talk ended by the second one.
 fn ends_at_the_line(alloc: Global, site: &Site, single: bool) -> Result<bool, NoMemory>
     requires { IsServed site.now }
 {
-    let row = row_of(TOO_LONG, TOO_LONG.split("\n== ").nth(1).unwrap_or(""));
+    let row = long_line(TOO_LONG);
     let out = record(alloc, site, row, single, None)?;
     Ok(out.said.as_str() == "abcd\n" && out.log.as_str().ends_with(TALK_END))
 }

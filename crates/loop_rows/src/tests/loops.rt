@@ -60,48 +60,115 @@ fn launch(alloc: Global) -> Result<Launch, NoMemory> {
     })
 }
 
+fn push(acts: &mut Vec<Act>, act: Act) -> Result<(), NoMemory> {
+    acts.push(act)?;
+    Ok(())
+}
+
+fn push_start(acts: &mut Vec<Act>, alloc: Global, c: u64) -> Result<(), NoMemory> {
+    let launch = launch(alloc)?;
+    push(
+        acts,
+        Act::Start {
+            k: c,
+            c,
+            j: 0,
+            hop: 0,
+            launch,
+        },
+    )
+}
+
+fn push_feed(acts: &mut Vec<Act>, alloc: Global, k: u64) -> Result<(), NoMemory> {
+    let bytes = Bytes::from_slice(alloc, b"abc")?;
+    push(acts, Act::Feed { k, bytes })?;
+    push(acts, Act::EndInput { k })?;
+    push(acts, Act::WantChild { k })
+}
+
+fn push_write(acts: &mut Vec<Act>, alloc: Global, c: u64) -> Result<(), NoMemory> {
+    let bytes = Bytes::from_slice(alloc, b"hi")?;
+    push(acts, Act::Write { c, bytes })
+}
+
+fn shut(c: u64) -> Act {
+    Act::Shut { c, why: Why::Done }
+}
+
 // The acts that answer an event: a child is started for each client, whose number it has, and once it has exited, or
-// was not started, the client is written to and shut.
-fn answer<P: Ports + Drop, S: Spawner + Drop, O: Orders + Drop, L: Ledger, R: Wait + Copy + Drop>(
+// was not started, the client is written to and shut. So many clients came before.
+fn push_acts(
+    acts: &mut Vec<Act>,
     alloc: Global,
-    out: &mut NetOutside<P, S, O, L, R>,
-    clients: &mut u64,
+    clients: u64,
     event: &Event,
 ) -> Result<(), NoMemory> {
     match event {
-        Event::Accepted { .. } => {
-            out.do_act(&Act::WantClient { c: *clients });
-            *clients = clients.saturating_add(1);
-        }
-        Event::ClientBytes { c, .. } => {
-            out.do_act(&Act::Start {
-                k: *c,
-                c: *c,
-                j: 0,
-                hop: 0,
-                launch: launch(alloc)?,
-            });
-        }
-        Event::Started { k } => {
-            let bytes = Bytes::from_slice(alloc, b"abc")?;
-            out.do_act(&Act::Feed { k: *k, bytes });
-            out.do_act(&Act::EndInput { k: *k });
-            out.do_act(&Act::WantChild { k: *k });
-        }
-        Event::ChildBytes { k, .. } => {
-            out.do_act(&Act::WantChild { k: *k });
-        }
+        Event::Accepted { .. } => push(acts, Act::WantClient { c: clients }),
+        Event::ClientBytes { c, .. } => push_start(acts, alloc, *c),
+        Event::Started { k } => push_feed(acts, alloc, *k),
+        Event::ChildBytes { k, .. } => push(acts, Act::WantChild { k: *k }),
         Event::Exited { k } | Event::StartFailed { k } | Event::StartFull { k, .. } => {
-            let bytes = Bytes::from_slice(alloc, b"hi")?;
-            out.do_act(&Act::Write { c: *k, bytes });
+            push_write(acts, alloc, *k)
         }
-        Event::Wrote { c, .. } => {
-            out.do_act(&Act::Shut {
-                c: *c,
-                why: Why::Done,
-            });
-        }
-        _ => {}
+        Event::Wrote { c, .. } => push(acts, shut(*c)),
+        _ => Ok(()),
+    }
+}
+
+fn acts_for(alloc: Global, clients: u64, event: &Event) -> Result<Vec<Act>, NoMemory> {
+    let mut acts = Vec::new(alloc);
+    push_acts(&mut acts, alloc, clients, event)?;
+    Ok(acts)
+}
+
+fn do_all<P: Ports + Drop, S: Spawner + Drop, O: Orders + Drop, L: Ledger, R: Wait + Copy + Drop>(
+    out: &mut NetOutside<P, S, O, L, R>,
+    acts: &[Act],
+) {
+    for act in acts {
+        out.do_act(act);
+    }
+}
+
+// How many clients came, after an event.
+fn clients_after(clients: u64, event: &Event) -> u64 {
+    match event {
+        Event::Accepted { .. } => clients.saturating_add(1),
+        _ => clients,
+    }
+}
+
+fn answer<P: Ports + Drop, S: Spawner + Drop, O: Orders + Drop, L: Ledger, R: Wait + Copy + Drop>(
+    alloc: Global,
+    out: &mut NetOutside<P, S, O, L, R>,
+    clients: u64,
+    event: &Event,
+) -> Result<(), NoMemory> {
+    let acts = acts_for(alloc, clients, event)?;
+    do_all(out, acts.as_slice());
+    Ok(())
+}
+
+// Adds the letters of so many events.
+fn push_letters<
+    P: Ports + Drop,
+    S: Spawner + Drop,
+    O: Orders + Drop,
+    L: Ledger,
+    R: Wait + Copy + Drop,
+>(
+    told: &mut Vec<u8>,
+    alloc: Global,
+    out: &mut NetOutside<P, S, O, L, R>,
+    events: u32,
+) -> Result<(), NoMemory> {
+    let mut clients = 0;
+    for _ in 0..events {
+        let event = out.next_event();
+        told.push(letter(&event))?;
+        answer(alloc, out, clients, &event)?;
+        clients = clients_after(clients, &event);
     }
     Ok(())
 }
@@ -113,12 +180,7 @@ fn tell<P: Ports + Drop, S: Spawner + Drop, O: Orders + Drop, L: Ledger, R: Wait
     events: u32,
 ) -> Result<Vec<u8>, NoMemory> {
     let mut told = Vec::new(alloc);
-    let mut clients = 0;
-    for _ in 0..events {
-        let event = out.next_event();
-        told.push(letter(&event))?;
-        answer(alloc, out, &mut clients, &event)?;
-    }
+    push_letters(&mut told, alloc, out, events)?;
     Ok(told)
 }
 

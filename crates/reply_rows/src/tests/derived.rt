@@ -1,5 +1,5 @@
 // What outputs derive, whole and cut at each place.
-use super::cells::{Cells, count_of, wrong_row};
+use super::cells::{Cells, are_right};
 use cgi_header::{CgiHead, HdrStep, read_header};
 use host_base::{Cause, NoMemory, Reply, ScriptKind};
 use reply_kinds::{Derived, ReplyKind, derive, kind_of, reply_of};
@@ -195,19 +195,12 @@ fn has_kind(alloc: Global, row: &Cells) -> Result<bool, NoMemory> {
 
 #[test]
 fn replies(rt: HostRuntime) -> Result<(), Fail> {
-    assert_eq!(rt; count_of(REPLIES), 34);
-    assert_eq!(rt;
-        wrong_row(rt.alloc(), REPLIES, replies_however_it_ends)?,
-        ""
-    );
-    Ok(())
+    are_right(&rt, rt.alloc(), REPLIES, 34, replies_however_it_ends)
 }
 
 #[test]
 fn kinds(rt: HostRuntime) -> Result<(), Fail> {
-    assert_eq!(rt; count_of(REPLIES), 34);
-    assert_eq!(rt; wrong_row(rt.alloc(), REPLIES, has_kind)?, "");
-    Ok(())
+    are_right(&rt, rt.alloc(), REPLIES, 34, has_kind)
 }
 
 // What the header derives, with this behind it.
@@ -230,16 +223,12 @@ fn is_refused(alloc: Global, row: &Cells) -> Result<bool, NoMemory> {
 
 #[test]
 fn local_redirects(rt: HostRuntime) -> Result<(), Fail> {
-    assert_eq!(rt; count_of(HOPS), 6);
-    assert_eq!(rt; wrong_row(rt.alloc(), HOPS, hops)?, "");
-    Ok(())
+    are_right(&rt, rt.alloc(), HOPS, 6, hops)
 }
 
 #[test]
 fn refusals(rt: HostRuntime) -> Result<(), Fail> {
-    assert_eq!(rt; count_of(REFUSED), 19);
-    assert_eq!(rt; wrong_row(rt.alloc(), REFUSED, is_refused)?, "");
-    Ok(())
+    are_right(&rt, rt.alloc(), REFUSED, 19, is_refused)
 }
 
 // What a script writes is the reply where it writes its own, and none where it speaks WebSocket.
@@ -256,13 +245,22 @@ fn is_none(alloc: Global, kind: ScriptKind) -> bool {
 }
 
 #[test]
-fn raw_replies(rt: HostRuntime) {
-    let alloc = rt.alloc();
-    assert!(&rt; is_own(alloc, b"HTTP/1.0 200 OK\r\n\r\nx"));
-    assert!(&rt; is_own(alloc, b"x"));
-    assert!(&rt; is_own(alloc, b"\n"));
-    assert!(&rt; is_own(alloc, b"Status: 1\n\n"));
-    assert!(&rt; is_none(alloc, ScriptKind::Cgi));
-    assert!(&rt; is_none(alloc, ScriptKind::Nph));
-    assert!(&rt; is_none(alloc, ScriptKind::WebSocket));
+fn raw_replies(rt: HostRuntime) -> Result<(), Fail> {
+    for output in [
+        b"HTTP/1.0 200 OK\r\n\r\nx".as_slice(),
+        b"x",
+        b"\n",
+        b"Status: 1\n\n",
+    ] {
+        assert!(rt; is_own(rt.alloc(), output), "{output:?}");
+    }
+    Ok(())
+}
+
+#[test]
+fn no_output_of_any_kind(rt: HostRuntime) -> Result<(), Fail> {
+    for kind in [ScriptKind::Cgi, ScriptKind::Nph, ScriptKind::WebSocket] {
+        assert!(rt; is_none(rt.alloc(), kind), "{kind:?}");
+    }
+    Ok(())
 }

@@ -5,6 +5,7 @@ use exchange_reply::{LegReply, fault_text};
 use host_base::{Bytes, Cause, NoMemory, ScriptKind, Version};
 use reply_stream::{Asked, Last};
 use std::alloc::Global;
+use std::test::Fail;
 
 // What is told, whether the connection closes after an answer that begins then, and what is then written.
 #[derive(Clone, Copy)]
@@ -155,23 +156,40 @@ const LATE: &[u8] =
 // .. and to HEAD, without one.
 const LATE_HEAD: &[u8] = b"HTTP/1.1 504 Gateway Timeout\r\nContent-Type: text/plain\r\n\r\n";
 
-#[test]
-fn a_run_that_fails_is_answered_by_the_host(rt: HostRuntime) -> Result<(), NoMemory> {
-    let reply = LegReply::new(rt.alloc(), GET);
-    assert!(&rt; !reply.has_begun());
+fn fails_late(alloc: Global) -> Result<bool, NoMemory> {
+    let reply = LegReply::new(alloc, GET);
+    let begun = reply.has_begun();
     let text = reply.fail(Cause::RunTime, true, Some(784_111_777))?;
-    assert!(&rt; text.is_some_and(|text| text.as_slice() == LATE));
-    let text = fault_text(rt.alloc(), Cause::RunTime, true, false, None)?;
-    assert!(&rt; text.as_slice() == LATE_HEAD);
-    Ok(())
+    Ok(!begun && text.is_some_and(|text| text.as_slice() == LATE))
+}
+
+fn fails_late_to_head(alloc: Global) -> Result<bool, NoMemory> {
+    let text = fault_text(alloc, Cause::RunTime, true, false, None)?;
+    Ok(text.as_slice() == LATE_HEAD)
 }
 
 #[test]
-fn a_reply_that_has_begun_is_not_answered_anew(rt: HostRuntime) -> Result<(), NoMemory> {
-    let mut reply = LegReply::new(rt.alloc(), RAW);
-    let _none = reply.hear(Bytes::from_slice(rt.alloc(), b"hi")?, false, None)?;
+fn a_run_that_fails_is_answered_by_the_host(rt: HostRuntime) -> Result<(), Fail> {
+    assert!(rt; fails_late(rt.alloc())?);
+    assert!(rt; fails_late_to_head(rt.alloc())?);
+    Ok(())
+}
+
+// A reply as it is of which two bytes were written.
+fn begun_reply(alloc: Global) -> Result<LegReply, NoMemory> {
+    let mut reply = LegReply::new(alloc, RAW);
+    let _none = reply.hear(Bytes::from_slice(alloc, b"hi")?, false, None)?;
     let _text = reply.tick(false, None)?;
-    assert!(&rt; reply.has_begun());
-    assert!(&rt; reply.fail(Cause::RunTime, true, None)?.is_none());
+    Ok(reply)
+}
+
+fn is_not_answered_anew(alloc: Global) -> Result<bool, NoMemory> {
+    let reply = begun_reply(alloc)?;
+    Ok(reply.has_begun() && reply.fail(Cause::RunTime, true, None)?.is_none())
+}
+
+#[test]
+fn a_reply_that_has_begun_is_not_answered_anew(rt: HostRuntime) -> Result<(), Fail> {
+    assert!(rt; is_not_answered_anew(rt.alloc())?);
     Ok(())
 }

@@ -1,5 +1,5 @@
 // What headers are read as, whole and cut at each place.
-use super::cells::{Cells, count_of, wrong_row};
+use super::cells::{Cells, are_right};
 use cgi_header::{CgiHead, Given, HdrStep, missing_cause, read_header};
 use host_base::{Bytes, Cause, NoMemory};
 use std::alloc::Global;
@@ -199,9 +199,7 @@ fn is_read_with_any(alloc: Global, row: &Cells) -> Result<bool, NoMemory> {
 
 #[test]
 fn headers_are_read_however_they_are_cut(rt: HostRuntime) -> Result<(), Fail> {
-    assert_eq!(rt; count_of(HEADERS), 26);
-    assert_eq!(rt; wrong_row(rt.alloc(), HEADERS, is_read_with_any)?, "");
-    Ok(())
+    are_right(&rt, rt.alloc(), HEADERS, 26, is_read_with_any)
 }
 
 // Whether the header is refused at each cut, with a field line behind it.
@@ -211,9 +209,7 @@ fn is_fault(alloc: Global, row: &Cells) -> Result<bool, NoMemory> {
 
 #[test]
 fn the_first_fault_is_the_cause(rt: HostRuntime) -> Result<(), Fail> {
-    assert_eq!(rt; count_of(FAULTS), 46);
-    assert_eq!(rt; wrong_row(rt.alloc(), FAULTS, is_fault)?, "");
-    Ok(())
+    are_right(&rt, rt.alloc(), FAULTS, 46, is_fault)
 }
 
 // A field line and an empty one of so many bytes together, where there is room for them.
@@ -230,46 +226,73 @@ fn is_whole_at(step: &Result<HdrStep, NoMemory>, count: usize) -> bool {
     }
 }
 
+fn is_awaited(alloc: Global, header: &[u8]) -> bool {
+    is_more(&read_header(alloc, header))
+}
+
+fn is_too_large(alloc: Global, header: &[u8]) -> bool {
+    is_bad(&read_header(alloc, header), Cause::HeaderTooLarge)
+}
+
+fn is_read_whole(alloc: Global, header: &[u8]) -> bool {
+    is_whole_at(&read_header(alloc, header), header.len())
+}
+
+fn all_but_one(header: &[u8]) -> &[u8] {
+    &header[..header.len().saturating_sub(1)]
+}
+
+// Whether a header of so many bytes is read whole, and awaited before its last byte.
+fn is_within(alloc: Global, count: usize, end: &[u8]) -> Result<bool, NoMemory> {
+    let header = long_header(alloc, count, end)?;
+    let header = header.as_slice();
+    let whole = header.len() == count && is_read_whole(alloc, header);
+    Ok(whole && is_awaited(alloc, all_but_one(header)))
+}
+
+// Whether a header of one byte more than the limit is refused, and before its last byte too.
+fn is_beyond(alloc: Global, end: &[u8]) -> Result<bool, NoMemory> {
+    let header = long_header(alloc, 8193, end)?;
+    let header = header.as_slice();
+    Ok(is_too_large(alloc, header) && is_too_large(alloc, all_but_one(header)))
+}
+
+fn is_limited(alloc: Global, end: &[u8]) -> Result<bool, NoMemory> {
+    let within = is_within(alloc, 8191, end)? && is_within(alloc, 8192, end)?;
+    Ok(within && is_beyond(alloc, end)?)
+}
+
 #[test]
-fn headers_up_to_the_limit(rt: HostRuntime) -> Result<(), NoMemory> {
-    let alloc = rt.alloc();
-    for end in [
-        b"\n\n".as_slice(),
-        b"\n\r\n".as_slice(),
-        b"\r\n\r\n".as_slice(),
-    ] {
-        for count in [8191_usize, 8192] {
-            let header = long_header(alloc, count, end)?;
-            assert!(&rt;
-                is_whole_at(&read_header(alloc, header.as_slice()), count),
-                "{count}"
-            );
-            let open = &header.as_slice()[..header.len().saturating_sub(1)];
-            assert!(&rt; is_more(&read_header(alloc, open)), "{count}");
-        }
-        let header = long_header(alloc, 8193, end)?;
-        assert!(&rt;
-            is_bad(
-                &read_header(alloc, header.as_slice()),
-                Cause::HeaderTooLarge
-            )
-        );
-        let open = &header.as_slice()[..header.len().saturating_sub(1)];
-        assert!(&rt; is_bad(&read_header(alloc, open), Cause::HeaderTooLarge));
+fn headers_up_to_the_limit(rt: HostRuntime) -> Result<(), Fail> {
+    for end in [b"\n\n".as_slice(), b"\n\r\n", b"\r\n\r\n"] {
+        assert!(rt; is_limited(rt.alloc(), end)?, "{end:?}");
     }
-    // Without an empty line, and with nothing that could be one.
-    for (count, more) in [(8191_usize, true), (8192, false), (8193, false)] {
-        let header = long_header(alloc, count, b"")?;
-        let step = read_header(alloc, header.as_slice());
-        assert!(&rt; is_more(&step) == more, "{count}");
-        assert!(&rt; is_bad(&step, Cause::HeaderTooLarge) != more, "{count}");
+    Ok(())
+}
+
+// Whether a header without an empty line, and with nothing that could be one, is awaited, or else too large.
+fn is_open(alloc: Global, count: usize, more: bool) -> Result<bool, NoMemory> {
+    let header = long_header(alloc, count, b"")?;
+    let header = header.as_slice();
+    Ok(is_awaited(alloc, header) == more && is_too_large(alloc, header) != more)
+}
+
+#[test]
+fn headers_without_an_end(rt: HostRuntime) -> Result<(), Fail> {
+    for (count, more) in [(8191, true), (8192, false), (8193, false)] {
+        assert!(rt; is_open(rt.alloc(), count, more)?, "{count}");
     }
     Ok(())
 }
 
 #[test]
-fn what_is_missing_at_the_end(rt: HostRuntime) {
-    assert!(&rt; missing_cause(b"") == Cause::NoOutput);
-    assert!(&rt; missing_cause(b"\r") == Cause::HeaderIncomplete);
-    assert!(&rt; missing_cause(b"Content-Type: text/plain\n") == Cause::HeaderIncomplete);
+fn what_is_missing_at_the_end(rt: HostRuntime) -> Result<(), Fail> {
+    for (output, cause) in [
+        (b"".as_slice(), Cause::NoOutput),
+        (b"\r", Cause::HeaderIncomplete),
+        (b"Content-Type: text/plain\n", Cause::HeaderIncomplete),
+    ] {
+        assert!(rt; missing_cause(output) == cause, "{cause:?}");
+    }
+    Ok(())
 }

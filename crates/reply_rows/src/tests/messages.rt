@@ -1,5 +1,5 @@
 // Outputs and their messages, in whatever pieces they come.
-use super::cells::{Cells, count_of, wrong_row};
+use super::cells::{Cells, are_right};
 use host_base::{NoMemory, Text, Texts};
 use line_messages::{LineStep, Lines, input_line};
 use std::alloc::Global;
@@ -121,9 +121,7 @@ fn is_read_at_every_cut(alloc: Global, row: &Cells) -> Result<bool, NoMemory> {
 
 #[test]
 fn outputs_are_read_at_every_cut(rt: HostRuntime) -> Result<(), Fail> {
-    assert_eq!(rt; count_of(OUTPUTS), 26);
-    assert_eq!(rt; wrong_row(rt.alloc(), OUTPUTS, is_read_at_every_cut)?, "");
-    Ok(())
+    are_right(&rt, rt.alloc(), OUTPUTS, 26, is_read_at_every_cut)
 }
 
 // Whether a step gave no message.
@@ -166,17 +164,17 @@ fn is_one_message(alloc: Global, limit: u64, len: usize, size: usize) -> Result<
 
 #[test]
 fn long_lines_are_read(rt: HostRuntime) -> Result<(), Fail> {
-    for size in [1, 4_096, 65_536, 1_048_576] {
-        assert!(rt;
-            is_one_message(rt.alloc(), 1_048_576, 1_048_576, size)?,
-            "{size}"
-        );
-        assert!(rt;
-            !is_one_message(rt.alloc(), 1_048_575, 1_048_576, size)?,
-            "{size}"
-        );
+    for (limit, message) in [(1_048_576, true), (1_048_575, false)] {
+        for size in [1, 4_096, 65_536, 1_048_576] {
+            let found = is_one_message(rt.alloc(), limit, 1_048_576, size)?;
+            assert!(rt; found == message, "{size}");
+        }
     }
     Ok(())
+}
+
+fn is_line(alloc: Global, text: &[u8], line: &[u8]) -> Result<bool, NoMemory> {
+    Ok(input_line(alloc, text)?.as_slice() == line)
 }
 
 #[test]
@@ -189,7 +187,7 @@ fn texts_become_lines(rt: HostRuntime) -> Result<(), Fail> {
         (b"a\n", b"a\n\n"),
     ];
     for (text, line) in table.iter() {
-        assert!(rt; input_line(rt.alloc(), text)?.as_slice() == *line);
+        assert!(rt; is_line(rt.alloc(), text, line)?, "{text:?}");
     }
     Ok(())
 }

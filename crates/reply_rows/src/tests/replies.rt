@@ -1,7 +1,7 @@
 // The host's own replies, the phrases, and replies whose text other programs know.
 ghost use Rattle.std.specs.Prelude.{length, ◌<◌};
 
-use super::cells::{Cells, count_of, wrong_row};
+use super::cells::{Cells, are_right, count_of};
 use host_base::{Bytes, Cause, Field, Fields, NoMemory, Reply};
 use reply_writer::{
     DATES_END, END_MARK, Shape, chunk_text, date_text, fault_reply, head_text, phrase, whole_text,
@@ -294,9 +294,7 @@ fn is_phrase(_: Global, row: &Cells) -> Result<bool, NoMemory> {
 
 #[test]
 fn phrases(rt: HostRuntime) -> Result<(), Fail> {
-    assert_eq!(rt; count_of(PHRASES), 47);
-    assert_eq!(rt; wrong_row(rt.alloc(), PHRASES, is_phrase)?, "");
-    Ok(())
+    are_right(&rt, rt.alloc(), PHRASES, 47, is_phrase)
 }
 
 fn is_spoken(alloc: Global, row: &Cells) -> Result<bool, NoMemory> {
@@ -307,9 +305,7 @@ fn is_spoken(alloc: Global, row: &Cells) -> Result<bool, NoMemory> {
 
 #[test]
 fn replies(rt: HostRuntime) -> Result<(), Fail> {
-    assert_eq!(rt; count_of(REPLIES), 8);
-    assert_eq!(rt; wrong_row(rt.alloc(), REPLIES, is_spoken)?, "");
-    Ok(())
+    are_right(&rt, rt.alloc(), REPLIES, 8, is_spoken)
 }
 
 const SHAPES: [(Shape, &str); 4] = [
@@ -348,9 +344,7 @@ fn is_date(_: Global, row: &Cells) -> Result<bool, NoMemory> {
 #[test]
 fn dates(rt: HostRuntime) -> Result<(), Fail> {
     assert_eq!(rt; DATES_END, 253_402_300_800);
-    assert_eq!(rt; count_of(DATES), 6);
-    assert_eq!(rt; wrong_row(rt.alloc(), DATES, is_date)?, "");
-    Ok(())
+    are_right(&rt, rt.alloc(), DATES, 6, is_date)
 }
 
 // A reply with a field of the script's own, at the second 784111777.
@@ -378,9 +372,7 @@ fn is_dated(alloc: Global, row: &Cells) -> Result<bool, NoMemory> {
 
 #[test]
 fn dated(rt: HostRuntime) -> Result<(), Fail> {
-    assert_eq!(rt; count_of(DATED), 6);
-    assert_eq!(rt; wrong_row(rt.alloc(), DATED, is_dated)?, "");
-    Ok(())
+    are_right(&rt, rt.alloc(), DATED, 6, is_dated)
 }
 
 const DATED_204: &[u8] =
@@ -395,13 +387,21 @@ fn is_dated_text(alloc: Global, reply: &Reply, close: bool, due: &[u8]) -> Resul
     Ok(text.as_slice() == due)
 }
 
+fn is_empty_reply_dated(alloc: Global) -> Result<bool, NoMemory> {
+    let spoken = reply(alloc, 204, b"No Content", b"")?;
+    is_dated_text(alloc, &spoken, false, DATED_204)
+}
+
+fn is_fault_dated(alloc: Global) -> Result<bool, NoMemory> {
+    let late = fault_reply(alloc, Cause::RunTime)?;
+    is_dated_text(alloc, &late, true, DATED_504)
+}
+
 // The host's own replies have a Date too.
 #[test]
 fn dated_without_a_field_of_a_script(rt: HostRuntime) -> Result<(), Fail> {
-    let spoken = reply(rt.alloc(), 204, b"No Content", b"")?;
-    assert!(rt; is_dated_text(rt.alloc(), &spoken, false, DATED_204)?);
-    let late = fault_reply(rt.alloc(), Cause::RunTime)?;
-    assert!(rt; is_dated_text(rt.alloc(), &late, true, DATED_504)?);
+    assert!(rt; is_empty_reply_dated(rt.alloc())?);
+    assert!(rt; is_fault_dated(rt.alloc())?);
     Ok(())
 }
 
@@ -423,8 +423,7 @@ fn is_size(alloc: Global, row: &Cells) -> Result<bool, NoMemory> {
 
 #[test]
 fn chunks(rt: HostRuntime) -> Result<(), Fail> {
-    assert_eq!(rt; count_of(SIZES), 10);
-    assert_eq!(rt; wrong_row(rt.alloc(), SIZES, is_size)?, "");
+    are_right(&rt, rt.alloc(), SIZES, 10, is_size)?;
     assert_eq!(rt; END_MARK, b"0\r\n\r\n".as_slice());
     Ok(())
 }

@@ -1,7 +1,7 @@
 // What streams write. Each row is told as it stands; `cuts` tells outputs cut at each place with ticks.
 ghost use Rattle.reply_writer.specs.WholeRules.{IsStamp};
 
-use super::cells::{Cells, count_of, wrong_row};
+use super::cells::{Cells, are_right};
 use host_base::{Bytes, NoMemory, ScriptKind, Version};
 use reply_stream::{Asked, Last, Stream};
 use std::alloc::Global;
@@ -198,7 +198,5 @@ fn is_answered(alloc: Global, row: &Cells) -> Result<bool, NoMemory> {
 
 #[test]
 fn rows(rt: HostRuntime) -> Result<(), Fail> {
-    assert_eq!(rt; count_of(ROWS), 34);
-    assert_eq!(rt; wrong_row(rt.alloc(), ROWS, is_answered)?, "");
-    Ok(())
+    are_right(&rt, rt.alloc(), ROWS, 34, is_answered)
 }

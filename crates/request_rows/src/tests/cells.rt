@@ -2,14 +2,16 @@
 // \t, \0 and \xHH are bytes, as in Rust, and blanks at its ends are left out.
 use host_base::{Cause, NoMemory};
 use std::alloc::Global;
+use std::process::Abort;
+use std::test::Fail;
 
 // Whether a line of a table is a row.
 fn is_row(line: &str) -> bool {
     !line.is_empty() && !line.starts_with("//")
 }
 
-/// How many rows a table has.
-pub fn count_of(table: &str) -> usize {
+// How many rows a table has.
+fn count_of(table: &str) -> usize {
     let mut count: usize = 0;
     for line in table.lines() {
         if is_row(line) {
@@ -28,48 +30,45 @@ fn digit(byte: u8) -> u8 {
     }
 }
 
-// Adds a part of a cell that stands behind a backslash. What is no escape stays as it is.
-fn push_escaped(bytes: &mut Vec<u8>, part: &[u8]) -> Result<(), NoMemory> {
+// The byte of an escape whose part behind the backslash begins a text, and the rest of the text. What is no escape stays
+// as it is.
+fn escaped(part: &[u8]) -> (u8, &[u8]) {
     match part {
-        [b'n', rest @ ..] => {
-            bytes.push(b'\n')?;
-            bytes.extend_from_slice(rest)?;
-        }
-        [b'r', rest @ ..] => {
-            bytes.push(b'\r')?;
-            bytes.extend_from_slice(rest)?;
-        }
-        [b't', rest @ ..] => {
-            bytes.push(b'\t')?;
-            bytes.extend_from_slice(rest)?;
-        }
-        [b'0', rest @ ..] => {
-            bytes.push(b'\0')?;
-            bytes.extend_from_slice(rest)?;
-        }
+        [b'n', rest @ ..] => (b'\n', rest),
+        [b'r', rest @ ..] => (b'\r', rest),
+        [b't', rest @ ..] => (b'\t', rest),
+        [b'0', rest @ ..] => (b'\0', rest),
         [b'x', high, low, rest @ ..] => {
-            bytes.push(digit(*high).wrapping_mul(16).wrapping_add(digit(*low)))?;
-            bytes.extend_from_slice(rest)?;
+            let byte = digit(*high).wrapping_mul(16).wrapping_add(digit(*low));
+            (byte, rest)
         }
-        _ => {
-            bytes.push(b'\\')?;
-            bytes.extend_from_slice(part)?;
+        _ => (b'\\', part),
+    }
+}
+
+fn push_escaped(bytes: &mut Vec<u8>, part: &[u8]) -> Result<(), NoMemory> {
+    let (byte, rest) = escaped(part);
+    bytes.push(byte)?;
+    bytes.extend_from_slice(rest)?;
+    Ok(())
+}
+
+fn push_unescaped(bytes: &mut Vec<u8>, text: &str) -> Result<(), NoMemory> {
+    let mut first = true;
+    for part in text.split('\\') {
+        if first {
+            bytes.extend_from_slice(part.as_bytes())?;
+        } else {
+            push_escaped(bytes, part.as_bytes())?;
         }
+        first = false;
     }
     Ok(())
 }
 
 fn cell_of(alloc: Global, text: &str) -> Result<Vec<u8>, NoMemory> {
     let mut bytes = Vec::new(alloc);
-    let mut first = true;
-    for part in text.split('\\') {
-        if first {
-            bytes.extend_from_slice(part.as_bytes())?;
-        } else {
-            push_escaped(&mut bytes, part.as_bytes())?;
-        }
-        first = false;
-    }
+    push_unescaped(&mut bytes, text)?;
     Ok(bytes)
 }
 
@@ -147,8 +146,8 @@ impl Cells {
     }
 }
 
-/// The first row of a table whose cells are not right; nothing where all are.
-pub fn wrong_row<F: Fn(Global, &Cells) -> Result<bool, NoMemory>>(
+// The first row of a table whose cells are not right; nothing where all are.
+fn wrong_row<F: Fn(Global, &Cells) -> Result<bool, NoMemory>>(
     alloc: Global,
     table: &'static str,
     is_right: F,
@@ -161,4 +160,19 @@ pub fn wrong_row<F: Fn(Global, &Cells) -> Result<bool, NoMemory>>(
         }
     }
     Ok("")
+}
+
+/// Each row of a table of so many is right.
+pub fn are_right<R: Abort, F: Fn(Global, &Cells) -> Result<bool, NoMemory>>(
+    rt: &R,
+    alloc: Global,
+    table: &'static str,
+    count: usize,
+    is_right: F,
+) -> Result<(), Fail>
+    requires { F.IsAlwaysCallable is_right }
+{
+    assert_eq!(rt; count_of(table), count);
+    assert_eq!(rt; wrong_row(alloc, table, is_right)?, "");
+    Ok(())
 }

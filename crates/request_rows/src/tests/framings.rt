@@ -1,6 +1,6 @@
 // What bodies in chunks are read as, whole, byte by byte and cut in two at each place, and how heads
 // delimit their bodies.
-use super::cells::{Cells, count_of, wrong_row};
+use super::cells::{Cells, are_right};
 use body_framing::{ChunkStep, Chunks, framing_of};
 use host_base::{Bytes, Cause, Field, Fields, Framing, Head, Limits, NoMemory, Version};
 use std::alloc::Global;
@@ -158,11 +158,8 @@ fn is_lettered_body(alloc: Global, row: &Cells) -> Result<bool, NoMemory> {
 
 #[test]
 fn bodies_however_they_are_cut(rt: HostRuntime) -> Result<(), Fail> {
-    assert_eq!(rt; count_of(BODIES), 53);
-    assert_eq!(rt; wrong_row(rt.alloc(), BODIES, is_short_body)?, "");
-    assert_eq!(rt; count_of(LETTERED), 8);
-    assert_eq!(rt; wrong_row(rt.alloc(), LETTERED, is_lettered_body)?, "");
-    Ok(())
+    are_right(&rt, rt.alloc(), BODIES, 53, is_short_body)?;
+    are_right(&rt, rt.alloc(), LETTERED, 8, is_lettered_body)
 }
 
 fn long_body(
@@ -188,9 +185,7 @@ fn is_long_body(alloc: Global, row: &Cells) -> Result<bool, NoMemory> {
 
 #[test]
 fn the_limits_edges(rt: HostRuntime) -> Result<(), Fail> {
-    assert_eq!(rt; count_of(LONG_BODIES), 5);
-    assert_eq!(rt; wrong_row(rt.alloc(), LONG_BODIES, is_long_body)?, "");
-    Ok(())
+    are_right(&rt, rt.alloc(), LONG_BODIES, 5, is_long_body)
 }
 
 // The framing that is due in HTTP/1.1, with a limit of 100 bytes, or the cause; and the names and values of the field lines.
@@ -304,7 +299,5 @@ fn is_framed_in_both(alloc: Global, row: &Cells) -> Result<bool, NoMemory> {
 
 #[test]
 fn how_heads_delimit_their_bodies(rt: HostRuntime) -> Result<(), Fail> {
-    assert_eq!(rt; count_of(FRAMINGS), 38);
-    assert_eq!(rt; wrong_row(rt.alloc(), FRAMINGS, is_framed_in_both)?, "");
-    Ok(())
+    are_right(&rt, rt.alloc(), FRAMINGS, 38, is_framed_in_both)
 }

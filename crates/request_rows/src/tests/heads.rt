@@ -1,8 +1,10 @@
 // What heads are read as: whole, byte by byte, and cut in two at each place.
-use super::cells::{Cells, count_of, wrong_row};
+ghost use Rattle.std.specs.Prelude.{◌≤◌, length};
+
+use super::cells::{Cells, are_right};
 use head_lines::Search;
 use head_reader::{HeadStep, read_head, read_head_from};
-use host_base::{Cause, Limits, NoMemory, Version};
+use host_base::{Cause, Field, Head, Limits, NoMemory, Version};
 use std::alloc::Global;
 use std::test::Fail;
 
@@ -120,6 +122,23 @@ fn is_right_by_bytes(
     Ok(true)
 }
 
+// Whether the text has the right answer where its first `cut` bytes came before the others.
+fn is_right_at_cut(
+    alloc: Global,
+    text: &[u8],
+    cut: usize,
+    limits: &Limits,
+    end: usize,
+    cause: Option<Cause>,
+) -> Result<bool, NoMemory>
+    requires { cut ≤ length text.now }
+{
+    let mut search = Search::new();
+    let front = read_head_from(alloc, &text[..cut], limits, &mut search)?;
+    let whole = read_head_from(alloc, text, limits, &mut search)?;
+    Ok(is_right(&front, cut, end, cause) && is_right(&whole, text.len(), end, cause))
+}
+
 // Whether the text has the right answer, also where it came in two pieces.
 fn is_right_in_two(
     alloc: Global,
@@ -129,10 +148,7 @@ fn is_right_in_two(
 ) -> Result<bool, NoMemory> {
     let limits = least_limits();
     for cut in 0..text.len() {
-        let mut search = Search::new();
-        let front = read_head_from(alloc, &text[..cut], &limits, &mut search)?;
-        let whole = read_head_from(alloc, text, &limits, &mut search)?;
-        if !is_right(&front, cut, end, cause) || !is_right(&whole, text.len(), end, cause) {
+        if !is_right_at_cut(alloc, text, cut, &limits, end, cause)? {
             return Ok(false);
         }
     }
@@ -155,9 +171,7 @@ fn is_head(alloc: Global, row: &Cells) -> Result<bool, NoMemory> {
 
 #[test]
 fn heads_and_causes_however_they_are_cut(rt: HostRuntime) -> Result<(), Fail> {
-    assert_eq!(rt; count_of(HEADS), 36);
-    assert_eq!(rt; wrong_row(rt.alloc(), HEADS, is_head)?, "");
-    Ok(())
+    are_right(&rt, rt.alloc(), HEADS, 36, is_head)
 }
 
 fn is_long_head(alloc: Global, row: &Cells) -> Result<bool, NoMemory> {
@@ -168,26 +182,38 @@ fn is_long_head(alloc: Global, row: &Cells) -> Result<bool, NoMemory> {
 
 #[test]
 fn the_limits_edges_however_they_are_cut(rt: HostRuntime) -> Result<(), Fail> {
-    assert_eq!(rt; count_of(LONG_HEADS), 20);
-    assert_eq!(rt; wrong_row(rt.alloc(), LONG_HEADS, is_long_head)?, "");
-    Ok(())
+    are_right(&rt, rt.alloc(), LONG_HEADS, 20, is_long_head)
+}
+
+fn has_field(fields: &[Field], place: usize, name: &[u8], value: &[u8]) -> bool {
+    match fields.get(place) {
+        Some(field) => field.name.as_slice() == name && field.value.as_slice() == value,
+        None => false,
+    }
+}
+
+fn has_both_fields(fields: &[Field]) -> bool {
+    fields.len() == 2 && has_field(fields, 0, b"Host", b"") && has_field(fields, 1, b"X-Y", b"b c")
+}
+
+fn has_its_words(head: &Head) -> bool {
+    head.method.as_slice() == b"PUT".as_slice()
+        && head.target.as_slice() == b"/a?b".as_slice()
+        && head.version == Version::V10
+        && has_both_fields(head.fields.as_slice())
+}
+
+fn is_put(step: &HeadStep) -> bool {
+    match step {
+        HeadStep::Whole { head, .. } => has_its_words(head),
+        _ => false,
+    }
 }
 
 #[test]
-fn a_head_keeps_its_words(rt: HostRuntime) {
+fn a_head_keeps_its_words(rt: HostRuntime) -> Result<(), Fail> {
     let bytes = b"PUT /a?b HTTP/1.0\r\nHost:\r\nX-Y: \t b c \r\n\r\n";
-    match read_head(rt.alloc(), bytes, &least_limits()) {
-        Ok(HeadStep::Whole { head, .. }) => {
-            let fields = head.fields.as_slice();
-            assert!(&rt; head.method.as_slice() == b"PUT".as_slice());
-            assert!(&rt; head.target.as_slice() == b"/a?b".as_slice());
-            assert!(&rt; head.version == Version::V10);
-            assert!(&rt; fields.len() == 2);
-            assert!(&rt; fields[0].name.as_slice() == b"Host".as_slice());
-            assert!(&rt; fields[0].value.as_slice() == b"".as_slice());
-            assert!(&rt; fields[1].name.as_slice() == b"X-Y".as_slice());
-            assert!(&rt; fields[1].value.as_slice() == b"b c".as_slice());
-        }
-        _ => panic!(&rt; "no head"),
-    }
+    let step = read_head(rt.alloc(), bytes, &least_limits())?;
+    assert!(rt; is_put(&step));
+    Ok(())
 }

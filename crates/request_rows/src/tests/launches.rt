@@ -6,21 +6,30 @@ ghost use Rattle.host_base.specs.SiteRules.{HasHosts, HasScripts};
 ghost use Rattle.meta_variables.specs.Launch.{HasTexts, NamesScript, is_text_or_none, script_in};
 
 use host_base::{
-    Bytes, Cause, Docs, Field, Fields, Framing, Hosts, Launch, Limits, Mapped, NoMemory, Pairs,
-    Peer, Refusal, Request, Script, ScriptKind, Scripts, Site, Target, Text, Texts, VHost, Version,
+    Bytes, Cause, Docs, Field, Fields, Framing, Hosts, Launch, Limits, Mapped, NoMemory, Pair,
+    Pairs, Peer, Refusal, Request, Script, ScriptKind, Scripts, Site, Target, Text, Texts, VHost,
+    Version,
 };
 use meta_variables::{environment, gateway_launch, launch};
 use std::alloc::Global;
 
+fn script_of(path: Text, program: Text, kind: ScriptKind) -> Script
+    ensures { result.path ≡ path }
+{
+    Script {
+        path,
+        program,
+        kind,
+        origins: None,
+    }
+}
+
 fn script(alloc: Global, path: &str, program: &str, kind: ScriptKind) -> Result<Script, NoMemory>
     ensures { IfOk result (λ script. script.path ≡ path.now) }
 {
-    Ok(Script {
-        path: Text::copy_of(alloc, path)?,
-        program: Text::copy_of(alloc, program)?,
-        kind,
-        origins: None,
-    })
+    let path = Text::copy_of(alloc, path)?;
+    let program = Text::copy_of(alloc, program)?;
+    Ok(script_of(path, program, kind))
 }
 
 fn scripts(alloc: Global, program: &str) -> Result<Scripts, NoMemory>
@@ -65,11 +74,11 @@ fn site(alloc: Global, program: &str) -> Result<Site, NoMemory>
 }
 
 fn bytes_or_none(alloc: Global, word: &str) -> Result<Option<Bytes>, NoMemory> {
-    if word == "-" {
-        return Ok(None);
+    match word {
+        "-" => Ok(None),
+        "_" => Ok(Some(Bytes::new(alloc))),
+        _ => Ok(Some(Bytes::from_slice(alloc, word.as_bytes())?)),
     }
-    let value = if word == "_" { "" } else { word };
-    Ok(Some(Bytes::from_slice(alloc, value.as_bytes())?))
 }
 
 // How many bytes stand before the first `=`.
@@ -171,27 +180,50 @@ fn mapped(alloc: Global, name: &str, info: &str) -> Result<Mapped, NoMemory> {
 }
 
 // Variables, each a line `NAME=VALUE`.
+fn push_pair(text: &mut String, pair: &Pair) -> Result<(), NoMemory> {
+    text.push_str(pair.name.as_str())?;
+    text.push('=')?;
+    text.push_str(pair.value.as_str())?;
+    text.push('\n')?;
+    Ok(())
+}
+
+fn push_pairs(text: &mut String, pairs: &[Pair]) -> Result<(), NoMemory> {
+    for pair in pairs {
+        push_pair(text, pair)?;
+    }
+    Ok(())
+}
+
 fn shown(alloc: Global, env: &Pairs) -> Result<String, NoMemory> {
     let mut text = String::new(alloc);
-    for pair in env.as_slice() {
-        text.push_str(pair.name.as_str())?;
-        text.push('=')?;
-        text.push_str(pair.value.as_str())?;
-        text.push('\n')?;
-    }
+    push_pairs(&mut text, env.as_slice())?;
     Ok(text)
+}
+
+fn peer(alloc: Global) -> Result<Peer, NoMemory> {
+    Ok(Peer(Text::copy_of(alloc, "192.0.2.1")?))
+}
+
+fn environment_of(
+    alloc: Global,
+    site: &Site,
+    request: &Request,
+    mapped: &Mapped,
+) -> Result<String, NoMemory> {
+    if !has_texts(request) || !names_script(site, mapped) {
+        return Ok(String::from_str(alloc, "no texts")?);
+    }
+    let peer = peer(alloc)?;
+    let env = environment(alloc, site, &peer, request, mapped)?;
+    shown(alloc, &env)
 }
 
 // The environment of a request for the script `/cgi-bin/hello`.
 fn asked(alloc: Global, request: &Request, info: &str) -> Result<String, NoMemory> {
     let site = site(alloc, "/srv/cgi/hello")?;
     let mapped = mapped(alloc, "/cgi-bin/hello", info)?;
-    let peer = Peer(Text::copy_of(alloc, "192.0.2.1")?);
-    if !has_texts(request) || !names_script(&site, &mapped) {
-        return Ok(String::from_str(alloc, "no texts")?);
-    }
-    let env = environment(alloc, &site, &peer, request, &mapped)?;
-    shown(alloc, &env)
+    environment_of(alloc, &site, request, &mapped)
 }
 
 const EVERY_VARIABLE: &str = "\
@@ -254,8 +286,9 @@ fn has_few(alloc: Global, line: &str) -> Result<bool, NoMemory> {
 
 #[test]
 fn few_variables(rt: HostRuntime) -> Result<(), NoMemory> {
-    assert!(&rt; has_few(rt.alloc(), "GET - - 1.0")?);
-    assert!(&rt; has_few(rt.alloc(), "GET _ - 1.0")?);
+    for line in ["GET - - 1.0", "GET _ - 1.0"] {
+        assert!(&rt; has_few(rt.alloc(), line)?, "{line}");
+    }
     Ok(())
 }
 
@@ -286,12 +319,22 @@ fn lengths(rt: HostRuntime) -> Result<(), NoMemory> {
 }
 
 // Arguments with a bar after each.
+fn push_arg(text: &mut String, arg: &Text) -> Result<(), NoMemory> {
+    text.push_str(arg.as_str())?;
+    text.push('|')?;
+    Ok(())
+}
+
+fn push_args(text: &mut String, args: &[Text]) -> Result<(), NoMemory> {
+    for arg in args {
+        push_arg(text, arg)?;
+    }
+    Ok(())
+}
+
 fn shown_args(alloc: Global, args: &Texts) -> Result<String, NoMemory> {
     let mut text = String::new(alloc);
-    for arg in args.as_slice() {
-        text.push_str(arg.as_str())?;
-        text.push('|')?;
-    }
+    push_args(&mut text, args.as_slice())?;
     Ok(text)
 }
 
@@ -302,16 +345,25 @@ fn shown_launch(alloc: Global, launch: &Launch) -> Result<String, NoMemory> {
     Ok(format!(in alloc; "{program} {dir} {}", args.as_str())?)
 }
 
+fn launch_of(
+    alloc: Global,
+    site: &Site,
+    request: &Request,
+    mapped: &Mapped,
+) -> Result<String, NoMemory> {
+    if !has_texts(request) || !names_script(site, mapped) {
+        return Ok(String::from_str(alloc, "no texts")?);
+    }
+    let peer = peer(alloc)?;
+    let given = launch(alloc, site, &peer, request, mapped)?;
+    shown_launch(alloc, &given)
+}
+
 // What is started for a request.
 fn started(alloc: Global, program: &str, request: &Request) -> Result<String, NoMemory> {
     let site = site(alloc, program)?;
     let mapped = mapped(alloc, "/cgi-bin", "")?;
-    let peer = Peer(Text::copy_of(alloc, "192.0.2.1")?);
-    if !has_texts(request) || !names_script(&site, &mapped) {
-        return Ok(String::from_str(alloc, "no texts")?);
-    }
-    let given = launch(alloc, &site, &peer, request, &mapped)?;
-    shown_launch(alloc, &given)
+    launch_of(alloc, &site, request, &mapped)
 }
 
 // Whether a method and a query start what is wanted.
@@ -393,9 +445,9 @@ PATH_TRANSLATED=/srv/www/é/%2F
 
 #[test]
 fn gateways(rt: HostRuntime) -> Result<(), NoMemory> {
-    assert!(&rt; gives(rt.alloc(), BY_NAME, FROM_NAME)?);
-    assert!(&rt; gives(rt.alloc(), BY_URI, FROM_URI)?);
-    assert!(&rt; gives(rt.alloc(), MANY, FROM_MANY)?);
+    for (lines, given) in [(BY_NAME, FROM_NAME), (BY_URI, FROM_URI), (MANY, FROM_MANY)] {
+        assert!(&rt; gives(rt.alloc(), lines, given)?, "{given}");
+    }
     Ok(())
 }
 

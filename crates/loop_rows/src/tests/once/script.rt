@@ -36,13 +36,19 @@ pub fn letter(event: &Event) -> u8 {
 }
 
 // A start of child k for the first connection.
-fn start(alloc: Global, k: u64) -> Result<Act, NoMemory> {
-    let launch = Launch {
-        program: Text::copy_of(alloc, "a")?,
-        dir: Text::copy_of(alloc, "b")?,
+fn launch(alloc: Global) -> Result<Launch, NoMemory> {
+    let program = Text::copy_of(alloc, "a")?;
+    let dir = Text::copy_of(alloc, "b")?;
+    Ok(Launch {
+        program,
+        dir,
         args: Texts::new(alloc),
         env: Pairs::new(alloc),
-    };
+    })
+}
+
+fn start(alloc: Global, k: u64) -> Result<Act, NoMemory> {
+    let launch = launch(alloc)?;
     Ok(Act::Start {
         k,
         c: 0,
@@ -76,11 +82,17 @@ pub enum Script {
 }
 
 impl Script {
-    fn acts(&self, alloc: Global, event: &Event) -> Result<Vec<Act>, NoMemory> {
+    fn push_acts(&self, acts: &mut Vec<Act>, alloc: Global, event: &Event) -> Result<(), NoMemory> {
         match self {
-            Script::One { ends_input } => acts_of_one(alloc, event, *ends_input),
-            Script::Two { gate } => acts_of_two(alloc, event, gate),
+            Script::One { ends_input } => push_acts_of_one(acts, alloc, event, *ends_input),
+            Script::Two { gate } => push_acts_of_two(acts, alloc, event, gate),
         }
+    }
+
+    fn acts(&self, alloc: Global, event: &Event) -> Result<Vec<Act>, NoMemory> {
+        let mut acts = Vec::new(alloc);
+        self.push_acts(&mut acts, alloc, event)?;
+        Ok(acts)
     }
 }
 
@@ -91,54 +103,81 @@ fn shut() -> Act {
     }
 }
 
-fn acts_of_one(alloc: Global, event: &Event, ends_input: bool) -> Result<Vec<Act>, NoMemory> {
-    let mut acts = Vec::new(alloc);
-    match event {
-        Event::Accepted { .. } => acts.push(Act::WantClient { c: 0 })?,
-        Event::ClientBytes { .. } => {
-            acts.push(start(alloc, 0)?)?;
-            acts.push(Act::WantClient { c: 0 })?;
-        }
-        Event::Started { .. } => {
-            acts.push(feed(alloc)?)?;
-            if ends_input {
-                acts.push(Act::EndInput { k: 0 })?;
-            }
-        }
-        Event::ClientEof { .. } | Event::Wrote { .. } => acts.push(Act::WantChild { k: 0 })?,
-        Event::ChildBytes { .. } => acts.push(write(alloc)?)?,
-        Event::ChildEof { .. } | Event::ChildBroken { .. } => {
-            acts.push(write(alloc)?)?;
-            acts.push(shut())?;
-        }
-        Event::StartFailed { .. } => acts.push(shut())?,
-        Event::ClientGone { .. } => {
-            acts.push(Act::Kill { k: 0 })?;
-            acts.push(Act::Release { k: 0 })?;
-            acts.push(shut())?;
-        }
-        _ => {}
-    }
-    Ok(acts)
+fn push(acts: &mut Vec<Act>, act: Act) -> Result<(), NoMemory> {
+    acts.push(act)?;
+    Ok(())
 }
 
-fn acts_of_two(alloc: Global, event: &Event, gate: &AtomicBool) -> Result<Vec<Act>, NoMemory> {
-    let mut acts = Vec::new(alloc);
-    match event {
-        Event::Accepted { .. } => {
-            acts.push(start(alloc, 0)?)?;
-            acts.push(start(alloc, 1)?)?;
-        }
-        Event::Started { k } => {
-            acts.push(Act::EndInput { k: *k })?;
-            acts.push(Act::WantChild { k: *k })?;
-        }
-        Event::ChildBytes { k, .. } => acts.push(Act::WantChild { k: *k })?,
-        Event::ChildEof { k: 1 } => gate.store(true, Ordering::SeqCst),
-        Event::ChildEof { .. } | Event::ChildBroken { .. } => acts.push(shut())?,
-        _ => {}
+fn push_start(acts: &mut Vec<Act>, alloc: Global) -> Result<(), NoMemory> {
+    push(acts, start(alloc, 0)?)?;
+    push(acts, Act::WantClient { c: 0 })
+}
+
+fn push_feed(acts: &mut Vec<Act>, alloc: Global, ends_input: bool) -> Result<(), NoMemory> {
+    push(acts, feed(alloc)?)?;
+    if ends_input {
+        push(acts, Act::EndInput { k: 0 })?;
     }
-    Ok(acts)
+    Ok(())
+}
+
+fn push_last(acts: &mut Vec<Act>, alloc: Global) -> Result<(), NoMemory> {
+    push(acts, write(alloc)?)?;
+    push(acts, shut())
+}
+
+fn push_end(acts: &mut Vec<Act>) -> Result<(), NoMemory> {
+    push(acts, Act::Kill { k: 0 })?;
+    push(acts, Act::Release { k: 0 })?;
+    push(acts, shut())
+}
+
+fn push_acts_of_one(
+    acts: &mut Vec<Act>,
+    alloc: Global,
+    event: &Event,
+    ends_input: bool,
+) -> Result<(), NoMemory> {
+    match event {
+        Event::Accepted { .. } => push(acts, Act::WantClient { c: 0 }),
+        Event::ClientBytes { .. } => push_start(acts, alloc),
+        Event::Started { .. } => push_feed(acts, alloc, ends_input),
+        Event::ClientEof { .. } | Event::Wrote { .. } => push(acts, Act::WantChild { k: 0 }),
+        Event::ChildBytes { .. } => push(acts, write(alloc)?),
+        Event::ChildEof { .. } | Event::ChildBroken { .. } => push_last(acts, alloc),
+        Event::StartFailed { .. } => push(acts, shut()),
+        Event::ClientGone { .. } => push_end(acts),
+        _ => Ok(()),
+    }
+}
+
+fn push_starts(acts: &mut Vec<Act>, alloc: Global) -> Result<(), NoMemory> {
+    push(acts, start(alloc, 0)?)?;
+    push(acts, start(alloc, 1)?)
+}
+
+fn push_wants(acts: &mut Vec<Act>, k: u64) -> Result<(), NoMemory> {
+    push(acts, Act::EndInput { k })?;
+    push(acts, Act::WantChild { k })
+}
+
+fn push_acts_of_two(
+    acts: &mut Vec<Act>,
+    alloc: Global,
+    event: &Event,
+    gate: &AtomicBool,
+) -> Result<(), NoMemory> {
+    match event {
+        Event::Accepted { .. } => push_starts(acts, alloc),
+        Event::Started { k } => push_wants(acts, *k),
+        Event::ChildBytes { k, .. } => push(acts, Act::WantChild { k: *k }),
+        Event::ChildEof { k: 1 } => {
+            gate.store(true, Ordering::SeqCst);
+            Ok(())
+        }
+        Event::ChildEof { .. } | Event::ChildBroken { .. } => push(acts, shut()),
+        _ => Ok(()),
+    }
 }
 
 /// An outside in memory.

@@ -1,5 +1,5 @@
 // Outputs whole, in single bytes and cut at each place, with a tick at each place: what each call writes.
-use super::super::cells::{Cells, count_of, wrong_row};
+use super::super::cells::{Cells, are_right};
 use super::{asked_of, is_ended, stamp_of};
 use host_base::{Bytes, NoMemory};
 use reply_stream::{Last, Stream};
@@ -284,7 +284,5 @@ fn is_right(alloc: Global, cells: &Cells) -> Result<bool, NoMemory> {
 
 #[test]
 fn cuts_and_ticks(rt: HostRuntime) -> Result<(), Fail> {
-    assert_eq!(rt; count_of(ROWS), 35);
-    assert_eq!(rt; wrong_row(rt.alloc(), ROWS, is_right)?, "");
-    Ok(())
+    are_right(&rt, rt.alloc(), ROWS, 35, is_right)
 }

@@ -1,5 +1,5 @@
 // Outputs of 8,192 and 8,193 bytes, cut at each place, with a tick at each place: what each call writes.
-use super::super::cells::{Cells, count_of, wrong_row};
+use super::super::cells::{Cells, are_right};
 use super::long::filled_at;
 use super::{GET, asked_of};
 use host_base::{Bytes, NoMemory};
@@ -205,14 +205,10 @@ fn is_edge(alloc: Global, row: &Cells) -> Result<bool, NoMemory> {
 
 #[test]
 fn outputs_about_8192_bytes(rt: HostRuntime) -> Result<(), Fail> {
-    assert_eq!(rt; count_of(OUTPUTS), 3);
-    assert_eq!(rt; wrong_row(rt.alloc(), OUTPUTS, is_edge)?, "");
-    Ok(())
+    are_right(&rt, rt.alloc(), OUTPUTS, 3, is_edge)
 }
 
 #[test]
 fn headers_about_8192_bytes(rt: HostRuntime) -> Result<(), Fail> {
-    assert_eq!(rt; count_of(HEADERS), 3);
-    assert_eq!(rt; wrong_row(rt.alloc(), HEADERS, is_edge)?, "");
-    Ok(())
+    are_right(&rt, rt.alloc(), HEADERS, 3, is_edge)
 }

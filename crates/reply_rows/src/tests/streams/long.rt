@@ -1,5 +1,5 @@
 // Outputs about the size at which a reply begins without a tick, and a header that is about as long.
-use super::super::cells::{Cells, count_of, wrong_row};
+use super::super::cells::{Cells, are_right};
 use super::{GET, asked_of, is_ended};
 use host_base::{Bytes, NoMemory};
 use reply_stream::{Asked, Last, Stream};
@@ -145,9 +145,7 @@ fn is_long(alloc: Global, row: &Cells) -> Result<bool, NoMemory> {
 
 #[test]
 fn long_outputs(rt: HostRuntime) -> Result<(), Fail> {
-    assert_eq!(rt; count_of(LONG), 11);
-    assert_eq!(rt; wrong_row(rt.alloc(), LONG, is_long)?, "");
-    Ok(())
+    are_right(&rt, rt.alloc(), LONG, 11, is_long)
 }
 
 fn is_unwritten_as(
@@ -180,9 +178,7 @@ fn is_unwritten(alloc: Global, row: &Cells) -> Result<bool, NoMemory> {
 
 #[test]
 fn long_outputs_of_which_nothing_is_written(rt: HostRuntime) -> Result<(), Fail> {
-    assert_eq!(rt; count_of(UNWRITTEN), 5);
-    assert_eq!(rt; wrong_row(rt.alloc(), UNWRITTEN, is_unwritten)?, "");
-    Ok(())
+    are_right(&rt, rt.alloc(), UNWRITTEN, 5, is_unwritten)
 }
 
 // Tells a piece: this is written.
@@ -193,21 +189,28 @@ fn is_answered(stream: &mut Stream, piece: Vec<u8>, close: bool, due: &[u8]) -> 
     }
 }
 
-// A long document in one piece, one byte more, and the end.
-#[test]
-fn a_long_document(rt: HostRuntime) -> Result<(), NoMemory> {
-    let alloc = rt.alloc();
-    let output = filled(alloc, b"Content-Type: text/plain\n\n", 9000, b"")?;
+fn is_long_document(alloc: Global, output: Vec<u8>, begun: &[u8]) -> Result<bool, NoMemory> {
+    let more = filled(alloc, b"b", 0, b"")?;
+    let mut stream = Stream::new(alloc, GET);
+    let heard = is_answered(&mut stream, output, true, begun)
+        && is_answered(&mut stream, more, false, b"1\r\nb\r\n");
+    Ok(heard && is_rest(&stream.end(false, None)?, b"0\r\n\r\n"))
+}
+
+fn is_a_long_document(alloc: Global) -> Result<bool, NoMemory> {
     let begun = filled(
         alloc,
         b"HTTP/1.1 200 OK\r\nContent-Type: text/plain\r\nTransfer-Encoding: chunked\r\nConnection: close\r\n\r\n2328\r\n",
         9000,
         b"\r\n",
     )?;
-    let more = filled(alloc, b"b", 0, b"")?;
-    let mut stream = Stream::new(alloc, GET);
-    assert!(&rt; is_answered(&mut stream, output, true, begun.as_slice()));
-    assert!(&rt; is_answered(&mut stream, more, false, b"1\r\nb\r\n"));
-    assert!(&rt; is_rest(&stream.end(false, None)?, b"0\r\n\r\n"));
+    let output = filled(alloc, b"Content-Type: text/plain\n\n", 9000, b"")?;
+    is_long_document(alloc, output, begun.as_slice())
+}
+
+// A long document in one piece, one byte more, and the end.
+#[test]
+fn a_long_document(rt: HostRuntime) -> Result<(), Fail> {
+    assert!(rt; is_a_long_document(rt.alloc())?);
     Ok(())
 }

@@ -1,5 +1,5 @@
 // Heads that are refused, and what is left behind them.
-use super::super::cells::{Cells, count_of, wrong_row};
+use super::super::cells::{Cells, are_right};
 use super::reading::is_refused;
 use host_base::NoMemory;
 use std::alloc::Global;
@@ -61,7 +61,5 @@ fn is_fault(alloc: Global, row: &Cells) -> Result<bool, NoMemory> {
 
 #[test]
 fn faults_stay_and_keep_their_bytes(rt: HostRuntime) -> Result<(), Fail> {
-    assert_eq!(rt; count_of(FAULTS), 41);
-    assert_eq!(rt; wrong_row(rt.alloc(), FAULTS, is_fault)?, "");
-    Ok(())
+    are_right(&rt, rt.alloc(), FAULTS, 41, is_fault)
 }

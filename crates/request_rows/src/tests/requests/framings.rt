@@ -1,5 +1,5 @@
 // Requests whose body has two readings, or is none.
-use super::super::cells::{Cells, count_of, wrong_row};
+use super::super::cells::{Cells, are_right};
 use super::reading::is_refused;
 use host_base::NoMemory;
 use std::alloc::Global;
@@ -55,9 +55,7 @@ fn is_smuggled(alloc: Global, row: &Cells) -> Result<bool, NoMemory> {
 
 #[test]
 fn what_has_two_readings_is_refused(rt: HostRuntime) -> Result<(), Fail> {
-    assert_eq!(rt; count_of(SMUGGLED), 23);
-    assert_eq!(rt; wrong_row(rt.alloc(), SMUGGLED, is_smuggled)?, "");
-    Ok(())
+    are_right(&rt, rt.alloc(), SMUGGLED, 23, is_smuggled)
 }
 
 fn is_bad_body(alloc: Global, row: &Cells) -> Result<bool, NoMemory> {
@@ -70,7 +68,5 @@ fn is_bad_body(alloc: Global, row: &Cells) -> Result<bool, NoMemory> {
 
 #[test]
 fn chunks_that_are_none(rt: HostRuntime) -> Result<(), Fail> {
-    assert_eq!(rt; count_of(BAD_BODIES), 7);
-    assert_eq!(rt; wrong_row(rt.alloc(), BAD_BODIES, is_bad_body)?, "");
-    Ok(())
+    are_right(&rt, rt.alloc(), BAD_BODIES, 7, is_bad_body)
 }

@@ -1,5 +1,5 @@
 // Long lines of a body, long pipelines and a long head.
-use super::super::cells::{Cells, count_of, wrong_row};
+use super::super::cells::{Cells, are_right};
 use super::reading::{
     Expected, LIMITS, is_answered_however_cut, is_refused, next_whole, push_times,
 };
@@ -51,21 +51,21 @@ fn is_right(alloc: Global, row: &Cells) -> Result<bool, NoMemory> {
 
 #[test]
 fn long_lines_however_they_are_cut(rt: HostRuntime) -> Result<(), Fail> {
-    assert_eq!(rt; count_of(LONG_LINES), 4);
-    assert_eq!(rt; wrong_row(rt.alloc(), LONG_LINES, is_right)?, "");
-    Ok(())
+    are_right(&rt, rt.alloc(), LONG_LINES, 4, is_right)
 }
 
 // How many whole requests there are now.
 fn count_now(reader: &mut ReqReader, most: usize) -> usize {
-    let mut count: usize = 0;
-    for _ in 0..most {
-        if next_whole(reader).is_none() {
-            break;
+    for count in 0..most {
+        if !gives_one(reader) {
+            return count;
         }
-        count = count.saturating_add(1);
     }
-    count
+    most
+}
+
+fn gives_one(reader: &mut ReqReader) -> bool {
+    next_whole(reader).is_some()
 }
 
 // How many of the requests of a text are given, fed in pieces of `size` bytes; none where bytes are left.

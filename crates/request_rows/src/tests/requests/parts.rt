@@ -1,5 +1,5 @@
 // Which requests end the connection, and what a local redirect keeps of one.
-use super::super::cells::{Cells, count_of, wrong_row};
+use super::super::cells::{Cells, are_right};
 use super::reading::{LIMITS, next_whole};
 use host_base::{Bytes, Field, NoMemory, Request, Target};
 use request_reader::{ReqReader, persists, redirected};
@@ -38,9 +38,7 @@ fn is_lasting(alloc: Global, row: &Cells) -> Result<bool, NoMemory> {
 
 #[test]
 fn which_requests_end_the_connection(rt: HostRuntime) -> Result<(), Fail> {
-    assert_eq!(rt; count_of(LASTING), 10);
-    assert_eq!(rt; wrong_row(rt.alloc(), LASTING, is_lasting)?, "");
-    Ok(())
+    are_right(&rt, rt.alloc(), LASTING, 10, is_lasting)
 }
 
 // Requests, the method after a local redirect, and the names of the field lines that are kept.
@@ -95,7 +93,5 @@ fn is_redirect(alloc: Global, row: &Cells) -> Result<bool, NoMemory> {
 
 #[test]
 fn what_a_local_redirect_keeps(rt: HostRuntime) -> Result<(), Fail> {
-    assert_eq!(rt; count_of(REDIRECTS), 3);
-    assert_eq!(rt; wrong_row(rt.alloc(), REDIRECTS, is_redirect)?, "");
-    Ok(())
+    are_right(&rt, rt.alloc(), REDIRECTS, 3, is_redirect)
 }

@@ -1,5 +1,5 @@
 // Requests one after another, and what is left behind them.
-use super::super::cells::{Cells, count_of, wrong_row};
+use super::super::cells::{Cells, are_right};
 use super::reading::{Expected, NEXT, is_answered_however_cut, push_times};
 use host_base::NoMemory;
 use std::alloc::Global;
@@ -81,7 +81,5 @@ fn is_right(alloc: Global, row: &Cells) -> Result<bool, NoMemory> {
 
 #[test]
 fn requests_and_another_behind_each(rt: HostRuntime) -> Result<(), Fail> {
-    assert_eq!(rt; count_of(REQUESTS), 36);
-    assert_eq!(rt; wrong_row(rt.alloc(), REQUESTS, is_right)?, "");
-    Ok(())
+    are_right(&rt, rt.alloc(), REQUESTS, 36, is_right)
 }

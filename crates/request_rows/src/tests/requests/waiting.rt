@@ -1,5 +1,5 @@
 // What is waited for, and what is served and handed out before its end.
-use super::super::cells::{Cells, count_of, wrong_row};
+use super::super::cells::{Cells, are_right};
 use super::reading::{LIMITS, next_whole};
 use host_base::{Bytes, NoMemory, Request};
 use request_reader::{ReqReader, ReqStep};
@@ -95,9 +95,7 @@ fn is_right(alloc: Global, row: &Cells) -> Result<bool, NoMemory> {
 
 #[test]
 fn what_is_waited_for_and_served_early(rt: HostRuntime) -> Result<(), Fail> {
-    assert_eq!(rt; count_of(UNENDED), 14);
-    assert_eq!(rt; wrong_row(rt.alloc(), UNENDED, is_right)?, "");
-    Ok(())
+    are_right(&rt, rt.alloc(), UNENDED, 14, is_right)
 }
 
 const STREAMED: &[u8] =
@@ -111,11 +109,15 @@ fn adds_part(reader: &mut ReqReader, body: &mut Bytes) -> bool {
 
 // Adds what has come of the body.
 fn takes(reader: &mut ReqReader, body: &mut Bytes) -> bool {
-    match reader.early() {
-        Ok(Some(_)) => adds_part(reader, body),
-        Ok(None) => true,
-        Err(_) => false,
+    match is_served_early(reader) {
+        Ok(true) => adds_part(reader, body),
+        Ok(false) => true,
+        Err(NoMemory) => false,
     }
+}
+
+fn is_served_early(reader: &mut ReqReader) -> Result<bool, NoMemory> {
+    Ok(reader.early()?.is_some())
 }
 
 // Adds what the request has at its end.
