@@ -13,6 +13,7 @@ use marks::{Mark, Recording};
 use plain::Rules;
 use seeded::{Differs, list_of};
 use std::alloc::Global;
+use std::process::Abort;
 use std::test::Fail;
 
 fn all_go(alloc: Global, cases: &[Case]) -> Result<usize, NoMemory> {
@@ -24,23 +25,25 @@ fn all_go(alloc: Global, cases: &[Case]) -> Result<usize, NoMemory> {
     Ok(cases.len())
 }
 
+// Every case of this name goes as it must.
+fn cases_go<R: Abort>(rt: &R, alloc: Global, cases: &[Case], name: &str) -> Result<(), Fail> {
+    assert_eq!(rt; all_go(alloc, cases)?, cases.len(), "{name}");
+    Ok(())
+}
+
 #[test]
 fn cases_by_hand(rt: HostRuntime) -> Result<(), Fail> {
-    assert_eq!(rt;
-        all_go(rt.alloc(), &RUN_TIMES)?,
-        RUN_TIMES.len(),
-        "run time"
-    );
-    assert_eq!(rt; all_go(rt.alloc(), &LINGERS)?, LINGERS.len(), "linger");
-    assert_eq!(rt; all_go(rt.alloc(), &OUTPUTS)?, OUTPUTS.len(), "output");
-    assert_eq!(rt;
-        all_go(rt.alloc(), &INPUTS_GONE)?,
-        INPUTS_GONE.len(),
-        "input gone"
-    );
-    assert_eq!(rt; all_go(rt.alloc(), &FEEDS)?, FEEDS.len(), "feeds");
-    assert_eq!(rt; all_go(rt.alloc(), &STARTS)?, STARTS.len(), "starts");
-    assert_eq!(rt; all_go(rt.alloc(), &EXITS)?, EXITS.len(), "exits");
+    for (cases, name) in [
+        (RUN_TIMES.as_slice(), "run time"),
+        (&LINGERS, "linger"),
+        (&OUTPUTS, "output"),
+        (&INPUTS_GONE, "input gone"),
+        (&FEEDS, "feeds"),
+        (&STARTS, "starts"),
+        (&EXITS, "exits"),
+    ] {
+        cases_go(&rt, rt.alloc(), cases, name)?;
+    }
     Ok(())
 }
 
@@ -115,24 +118,46 @@ fn acts_are(run: &mut Run, out: &mut Recording, may: bool, acts: &[Mark]) -> boo
     found != out.full && out.right && out.has(acts)
 }
 
+// It is started, and is fed once there is room.
+fn is_fed_once_there_is_room(
+    alloc: Global,
+    run: &mut Run,
+    out: &mut Recording,
+) -> Result<bool, NoMemory> {
+    let offered = happens(alloc, run, Mark::Started, 0)?
+        && happens(alloc, run, Mark::Offered(3, true), 0)?;
+    out.full = true;
+    let waits = acts_are(run, out, true, &[]);
+    out.full = false;
+    let feeds = acts_are(run, out, false, &[Mark::Fed(3), Mark::EndInput]);
+    Ok(offered && waits && feeds)
+}
+
+// Its output is asked for once no more waits to be sent.
+fn is_asked(run: &mut Run, out: &mut Recording) -> bool {
+    !run.wants_more() && acts_are(run, out, true, &[Mark::Ask])
+}
+
+fn drains(run: &mut Run, output: &[u8]) -> bool {
+    run.drain().as_slice() == output
+}
+
+fn gives_its_output(alloc: Global, run: &mut Run) -> Result<bool, NoMemory> {
+    let heard = happens(alloc, run, Mark::Output(3), 0)?;
+    let output = [0u8, 1, 2];
+    let whole = run.output() == output.as_slice();
+    Ok(heard && whole && drains(run, &output) && run.output().is_empty())
+}
+
+fn has_room(alloc: Global) -> Result<bool, NoMemory> {
+    let mut run = run_of(alloc, &CGI);
+    let mut out = Recording::new();
+    let fed = is_fed_once_there_is_room(alloc, &mut run, &mut out)?;
+    Ok(fed && is_asked(&mut run, &mut out) && gives_its_output(alloc, &mut run)?)
+}
+
 #[test]
 fn room_for_a_feed_and_for_output(rt: HostRuntime) -> Result<(), Fail> {
-    let mut run = run_of(rt.alloc(), &CGI);
-    let mut out = Recording::new();
-    assert!(rt; happens(rt.alloc(), &mut run, Mark::Started, 0)?);
-    assert!(rt; happens(rt.alloc(), &mut run, Mark::Offered(3, true), 0)?);
-    out.full = true;
-    assert!(rt;
-        acts_are(&mut run, &mut out, true, &[]),
-        "no room, so no act"
-    );
-    out.full = false;
-    assert!(rt; acts_are(&mut run, &mut out, false, &[Mark::Fed(3), Mark::EndInput]));
-    assert!(rt; !run.wants_more());
-    assert!(rt; acts_are(&mut run, &mut out, true, &[Mark::Ask]));
-    assert!(rt; happens(rt.alloc(), &mut run, Mark::Output(3), 0)?);
-    assert_eq!(rt; run.output(), [0u8, 1, 2].as_slice());
-    assert_eq!(rt; run.drain().as_slice(), [0u8, 1, 2].as_slice());
-    assert_eq!(rt; run.output().len(), 0);
+    assert!(rt; has_room(rt.alloc())?);
     Ok(())
 }

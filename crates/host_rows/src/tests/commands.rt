@@ -24,17 +24,33 @@ fn file(alloc: Global, name: &str, bytes: &[u8]) -> Result<StoredFile, NoMemory>
     })
 }
 
-// Files, of which `lost` can't be read.
-fn store(alloc: Global) -> Result<MemoryStore, NoMemory> {
+fn files(alloc: Global) -> Result<Vec<StoredFile>, NoMemory> {
+    let two = TWO.as_bytes();
+    let table: [(&str, &[u8]); 6] = [
+        ("two", two),
+        ("hosts", HOSTS.as_bytes()),
+        ("x", b"x"),
+        ("latin", b"version = 1 # \xe4"),
+        ("version", b"version = 1"),
+        ("lost", two),
+    ];
     let mut files = Vec::new(alloc);
-    files.push(file(alloc, "two", TWO.as_bytes())?)?;
-    files.push(file(alloc, "hosts", HOSTS.as_bytes())?)?;
-    files.push(file(alloc, "x", b"x")?)?;
-    files.push(file(alloc, "latin", b"version = 1 # \xe4")?)?;
-    files.push(file(alloc, "version", b"version = 1")?)?;
-    files.push(file(alloc, "lost", TWO.as_bytes())?)?;
+    for (name, bytes) in table {
+        files.push(file(alloc, name, bytes)?)?;
+    }
+    Ok(files)
+}
+
+fn failing(alloc: Global) -> Result<Vec<Text>, NoMemory> {
     let mut failing = Vec::new(alloc);
     failing.push(Text::copy_of(alloc, "lost")?)?;
+    Ok(failing)
+}
+
+// Files, of which `lost` can't be read.
+fn store(alloc: Global) -> Result<MemoryStore, NoMemory> {
+    let files = files(alloc)?;
+    let failing = failing(alloc)?;
     Ok(MemoryStore::new(files, failing))
 }
 
@@ -227,11 +243,17 @@ fn unnamed(help: &str) -> &'static str {
     ""
 }
 
+fn unnamed_by_help<R: Threads + Sync>(rt: &R, alloc: Global) -> Result<&'static str, NoMemory> {
+    let came = came_of(rt, alloc, &["--help"], &[])?;
+    match came.status {
+        Status::Done => Ok(unnamed(shown(came.report.written()))),
+        _ => Ok("not done"),
+    }
+}
+
 #[test]
 fn the_help_names_what_there_is(rt: HostRuntime) -> Result<(), Fail> {
-    let came = came_of(&rt, rt.alloc(), &["--help"], &[])?;
-    assert!(rt; matches!(came.status, Status::Done));
-    assert_eq!(rt; unnamed(shown(came.report.written())), "");
+    assert_eq!(rt; unnamed_by_help(&rt, rt.alloc())?, "");
     Ok(())
 }
 

@@ -73,21 +73,19 @@ env SERVER_SOFTWARE=cgihost/1
 env HTTP_HOST=a
 ";
 
-// Nothing is done but to ask, and the trace ends with the request.
+const ASKED: &str = "Accepted 192.0.2.1\n    WantClient 0\nClientBytes 0: 59\n";
+
+// Whether it is explained, nothing is done but to ask, and the trace ends with the request.
+fn is_only_asked_for<R: Threads + Sync>(rt: &R, alloc: Global) -> Result<bool, NoMemory> {
+    let heard = [Heard::Accepted, Heard::Client(0, REQUEST)];
+    let came = came_of(rt, alloc, &heard, &[])?;
+    let trace = told(alloc, &came.world)?;
+    Ok(is_explained(&came, HELLO) && trace.as_str() == ASKED)
+}
+
 #[test]
 fn a_whole_request(rt: HostRuntime) -> Result<(), Fail> {
-    let came = came_of(
-        &rt,
-        rt.alloc(),
-        &[Heard::Accepted, Heard::Client(0, REQUEST)],
-        &[],
-    )?;
-    assert!(rt; is_explained(&came, HELLO));
-    let trace = told(rt.alloc(), &came.world)?;
-    assert_eq!(rt;
-        trace.as_str(),
-        "Accepted 192.0.2.1\n    WantClient 0\nClientBytes 0: 59\n"
-    );
+    assert!(rt; is_only_asked_for(&rt, rt.alloc())?);
     Ok(())
 }
 
@@ -119,16 +117,36 @@ env HTTP_HOST=example.com:8080
     Ok(())
 }
 
-#[test]
-fn a_request_in_single_bytes(rt: HostRuntime) -> Result<(), Fail> {
-    let mut heard = Vec::new(rt.alloc());
+fn in_single_bytes(alloc: Global) -> Result<Vec<Heard<'static>>, NoMemory> {
+    let mut heard = Vec::new(alloc);
     heard.push(Heard::Accepted)?;
     for piece in REQUEST.chunks(1) {
         heard.push(Heard::Client(0, piece))?;
     }
-    let explained = explains(&rt, rt.alloc(), heard.as_slice(), HELLO)?;
-    assert!(rt; explained);
+    Ok(heard)
+}
+
+fn explains_single_bytes<R: Threads + Sync>(rt: &R, alloc: Global) -> Result<bool, NoMemory> {
+    let heard = in_single_bytes(alloc)?;
+    explains(rt, alloc, heard.as_slice(), HELLO)
+}
+
+#[test]
+fn a_request_in_single_bytes(rt: HostRuntime) -> Result<(), Fail> {
+    assert!(rt; explains_single_bytes(&rt, rt.alloc())?);
     Ok(())
+}
+
+// Whether this is the cause for which a request is refused.
+fn is_refused<R: Threads + Sync>(
+    rt: &R,
+    alloc: Global,
+    request: &[u8],
+    cause: &str,
+) -> Result<bool, NoMemory> {
+    let text = format!(in alloc; "refused: {cause}\n")?;
+    let heard = [Heard::Accepted, Heard::Client(0, request)];
+    explains(rt, alloc, &heard, text.as_str())
 }
 
 // The head, the body that it announces, and the script of its target.
@@ -151,10 +169,7 @@ fn requests_that_are_refused(rt: HostRuntime) -> Result<(), Fail> {
         ),
     ];
     for (request, cause) in table {
-        let text = format!(in rt.alloc(); "refused: {cause}\n")?;
-        let heard = [Heard::Accepted, Heard::Client(0, request)];
-        let explained = explains(&rt, rt.alloc(), &heard, text.as_str())?;
-        assert!(rt; explained, "{cause}");
+        assert!(rt; is_refused(&rt, rt.alloc(), request, cause)?, "{cause}");
     }
     Ok(())
 }
@@ -184,8 +199,9 @@ fn requests_that_never_end(rt: HostRuntime) -> Result<(), Fail> {
 #[test]
 fn no_request(rt: HostRuntime) -> Result<(), Fail> {
     let ended = [Heard::Accepted, Heard::ClientEof(0)];
-    assert!(rt; explains(&rt, rt.alloc(), &ended, "no request\n")?);
-    assert!(rt; explains(&rt, rt.alloc(), &[], "no request\n")?);
+    for heard in [ended.as_slice(), &[]] {
+        assert!(rt; explains(&rt, rt.alloc(), heard, "no request\n")?);
+    }
     Ok(())
 }
 
@@ -222,24 +238,26 @@ env HTTP_X_Y=1\\x09\\x5C, \u{e9}
     Ok(())
 }
 
-// Half of a report that fails was put.
+// Whether half of a report that fails was put.
+fn is_half_put<R: Threads + Sync>(rt: &R, alloc: Global) -> Result<bool, NoMemory> {
+    let heard = [Heard::Accepted, Heard::ClientEof(0)];
+    let came = came_of(rt, alloc, &heard, &[0])?;
+    Ok(matches!(came.status, Status::ReportFault) && reports(&came, "no re"))
+}
+
 #[test]
 fn a_report_that_fails(rt: HostRuntime) -> Result<(), Fail> {
-    let came = came_of(
-        &rt,
-        rt.alloc(),
-        &[Heard::Accepted, Heard::ClientEof(0)],
-        &[0],
-    )?;
-    let fails = matches!(came.status, Status::ReportFault);
-    assert!(rt; fails && reports(&came, "no re"));
+    assert!(rt; is_half_put(&rt, rt.alloc())?);
     Ok(())
+}
+
+fn finds_no_memory<R: Threads + Sync>(rt: &R, alloc: Global) -> Result<bool, NoMemory> {
+    let came = came_of(rt, alloc, &[Heard::Accepted, Heard::NoRoom(0)], &[])?;
+    Ok(matches!(came.status, Status::NoMemory) && reports(&came, ""))
 }
 
 #[test]
 fn a_client_for_whom_there_is_no_memory(rt: HostRuntime) -> Result<(), Fail> {
-    let came = came_of(&rt, rt.alloc(), &[Heard::Accepted, Heard::NoRoom(0)], &[])?;
-    let fails = matches!(came.status, Status::NoMemory);
-    assert!(rt; fails && reports(&came, ""));
+    assert!(rt; finds_no_memory(&rt, rt.alloc())?);
     Ok(())
 }

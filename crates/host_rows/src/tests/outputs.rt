@@ -113,17 +113,26 @@ Location: /none\n\n | $NO_SCRIPT
 Location: /none\nContent-Type: text/plain\n\nhi\n | $NO_SCRIPT
 "#;
 
-fn is_case<R: Threads + Sync>(rt: &R, alloc: Global, case: &str) -> Result<bool, NoMemory> {
-    let output = bytes_of(alloc, OUTPUTS, column(case, 0))?;
-    let reply = bytes_of(alloc, OUTPUTS, column(case, 1))?;
+fn is_case<R: Threads + Sync>(
+    rt: &R,
+    alloc: Global,
+    table: &str,
+    case: &str,
+) -> Result<bool, NoMemory> {
+    let output = bytes_of(alloc, table, column(case, 0))?;
+    let reply = bytes_of(alloc, table, column(case, 1))?;
     let wanted = Wanted::Served(reply.as_slice());
     is_right_in_any(rt, alloc, Part::Output, output.as_slice(), wanted)
 }
 
 // The first output that has another reply; nothing where none has.
-fn wrong_case<R: Threads + Sync>(rt: &R, alloc: Global) -> Result<&'static str, NoMemory> {
-    for case in OUTPUTS.lines() {
-        if is_row(case) && !is_case(rt, alloc, case)? {
+fn wrong_case<R: Threads + Sync>(
+    rt: &R,
+    alloc: Global,
+    table: &'static str,
+) -> Result<&'static str, NoMemory> {
+    for case in table.lines() {
+        if is_row(case) && !is_case(rt, alloc, table, case)? {
             return Ok(case);
         }
     }
@@ -132,8 +141,9 @@ fn wrong_case<R: Threads + Sync>(rt: &R, alloc: Global) -> Result<&'static str, 
 
 #[test]
 fn outputs_in_any_pieces(rt: HostRuntime) -> Result<(), Fail> {
-    assert_eq!(rt; count_of(OUTPUTS), 77);
-    assert_eq!(rt; wrong_case(&rt, rt.alloc())?, "");
+    let table = OUTPUTS;
+    assert_eq!(rt; count_of(table), 77);
+    assert_eq!(rt; wrong_case(&rt, rt.alloc(), table)?, "");
     Ok(())
 }
 

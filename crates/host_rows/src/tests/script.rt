@@ -22,48 +22,45 @@ fn digit(byte: u8) -> u8 {
     }
 }
 
-// Adds a part of a text that stands behind a backslash. What is no escape stays as it is.
-fn push_escaped(bytes: &mut Vec<u8>, part: &[u8]) -> Result<(), NoMemory> {
+// The byte of an escape whose part behind the backslash begins a text, and the rest of the text. What is no escape stays
+// as it is.
+fn escaped(part: &[u8]) -> (u8, &[u8]) {
     match part {
-        [b'n', rest @ ..] => {
-            bytes.push(b'\n')?;
-            bytes.extend_from_slice(rest)?;
-        }
-        [b'r', rest @ ..] => {
-            bytes.push(b'\r')?;
-            bytes.extend_from_slice(rest)?;
-        }
-        [b't', rest @ ..] => {
-            bytes.push(b'\t')?;
-            bytes.extend_from_slice(rest)?;
-        }
-        [b'0', rest @ ..] => {
-            bytes.push(b'\0')?;
-            bytes.extend_from_slice(rest)?;
-        }
+        [b'n', rest @ ..] => (b'\n', rest),
+        [b'r', rest @ ..] => (b'\r', rest),
+        [b't', rest @ ..] => (b'\t', rest),
+        [b'0', rest @ ..] => (b'\0', rest),
         [b'x', high, low, rest @ ..] => {
-            bytes.push(digit(*high).wrapping_mul(16).wrapping_add(digit(*low)))?;
-            bytes.extend_from_slice(rest)?;
+            let byte = digit(*high).wrapping_mul(16).wrapping_add(digit(*low));
+            (byte, rest)
         }
-        _ => {
-            bytes.push(b'\\')?;
-            bytes.extend_from_slice(part)?;
+        _ => (b'\\', part),
+    }
+}
+
+fn push_escaped(bytes: &mut Vec<u8>, part: &[u8]) -> Result<(), NoMemory> {
+    let (byte, rest) = escaped(part);
+    bytes.push(byte)?;
+    bytes.extend_from_slice(rest)?;
+    Ok(())
+}
+
+fn push_unescaped(bytes: &mut Vec<u8>, text: &str) -> Result<(), NoMemory> {
+    let mut first = true;
+    for part in text.split('\\') {
+        if first {
+            bytes.extend_from_slice(part.as_bytes())?;
+        } else {
+            push_escaped(bytes, part.as_bytes())?;
         }
+        first = false;
     }
     Ok(())
 }
 
 fn unescaped(alloc: Global, text: &str) -> Result<Vec<u8>, NoMemory> {
     let mut bytes = Vec::new(alloc);
-    let mut first = true;
-    for part in text.split('\\') {
-        if first {
-            bytes.extend_from_slice(part.as_bytes())?;
-        } else {
-            push_escaped(&mut bytes, part.as_bytes())?;
-        }
-        first = false;
-    }
+    push_unescaped(&mut bytes, text)?;
     Ok(bytes)
 }
 
