@@ -5,6 +5,7 @@ use host_base::NoMemory;
 use host_trace::Acted;
 use memory_world::{MemoryOutside, fits};
 use std::alloc::Global;
+use std::process::Abort;
 use std::test::Fail;
 
 // How many children may run.
@@ -289,23 +290,29 @@ fn count_rows(table: &str) -> usize {
     rows
 }
 
+// Each row of a table of so many is right.
+fn rows_fit<R: Abort>(
+    rt: &R,
+    alloc: Global,
+    table: &'static str,
+    count: usize,
+) -> Result<(), Fail> {
+    assert_eq!(rt; count_rows(table), count);
+    assert_eq!(rt; wrong_row(alloc, table)?, None);
+    Ok(())
+}
+
 #[test]
 fn clients(rt: HostRuntime) -> Result<(), Fail> {
-    assert_eq!(rt; wrong_row(rt.alloc(), CLIENT_ROWS)?, None);
-    assert_eq!(rt; count_rows(CLIENT_ROWS), 31);
-    Ok(())
+    rows_fit(&rt, rt.alloc(), CLIENT_ROWS, 31)
 }
 
 #[test]
 fn children(rt: HostRuntime) -> Result<(), Fail> {
-    assert_eq!(rt; wrong_row(rt.alloc(), CHILD_ROWS)?, None);
-    assert_eq!(rt; count_rows(CHILD_ROWS), 38);
-    Ok(())
+    rows_fit(&rt, rt.alloc(), CHILD_ROWS, 38)
 }
 
 #[test]
 fn talks(rt: HostRuntime) -> Result<(), Fail> {
-    assert_eq!(rt; wrong_row(rt.alloc(), TALK_ROWS)?, None);
-    assert_eq!(rt; count_rows(TALK_ROWS), 16);
-    Ok(())
+    rows_fit(&rt, rt.alloc(), TALK_ROWS, 16)
 }

@@ -75,8 +75,8 @@ fn answers_starts(alloc: Global, out: &mut MemoryOutside) -> Result<bool, NoMemo
 #[test]
 fn a_list_that_is_used_up(rt: HostRuntime) -> Result<(), Fail> {
     let mut out = outside(rt.alloc(), &[Accepted, StartFailed(1)], 100)?;
-    assert!(rt; answers_starts(rt.alloc(), &mut out)?);
-    assert!(rt; out.tells());
+    let right = answers_starts(rt.alloc(), &mut out)? && out.tells();
+    assert!(rt; right);
     Ok(())
 }
 
@@ -129,8 +129,8 @@ fn acts_that_find_no_room(rt: HostRuntime) -> Result<(), Fail> {
     // The first twelve acts, and the fifteenth.
     let refused = vec![in alloc; 14, 11, 10, 9, 8, 7, 6, 5, 4, 3, 2, 1, 0]?;
     let mut out = MemoryOutside::new(alloc, events_of(alloc, &[])?, refused, 100, 2)?;
-    assert!(rt; finds_no_room(alloc, &mut out)?);
-    assert!(rt; out.tells());
+    let right = finds_no_room(alloc, &mut out)? && out.tells();
+    assert!(rt; right);
     Ok(())
 }
 
@@ -165,7 +165,7 @@ fn hands_up_all(alloc: Global, out: &mut MemoryOutside) -> Result<bool, NoMemory
 fn the_wild_hands_up_everything(rt: HostRuntime) -> Result<(), Fail> {
     let alloc = rt.alloc();
     let mut out = MemoryOutside::wild(alloc, events_of(alloc, &WILD)?, vec![in alloc; 1]?, 2)?;
-    assert!(rt; hands_up_all(alloc, &mut out)?);
-    assert!(rt; !out.tells());
+    let right = hands_up_all(alloc, &mut out)? && !out.tells();
+    assert!(rt; right);
     Ok(())
 }

@@ -60,14 +60,16 @@ fn gave(world: &MemoryWorld) -> bool {
     }
 }
 
+fn tells_of_a_run(world: &mut MemoryWorld, site: &Site) -> bool {
+    world.tells() && runs(world, site) && world.tells() && gave(world)
+}
+
 #[test]
 fn traces_come_back_in_order(rt: HostRuntime) -> Result<(), Fail> {
     let site = site(rt.alloc())?;
     let mut world = world(rt.alloc(), 64)?;
-    assert!(rt; world.tells());
-    assert!(rt; runs(&mut world, &site));
-    assert!(rt; world.tells());
-    assert!(rt; gave(&world));
+    let right = tells_of_a_run(&mut world, &site);
+    assert!(rt; right);
     Ok(())
 }
 
@@ -139,14 +141,19 @@ fn gives(store: &mut MemoryStore, name: &str, bytes: &[u8]) -> bool {
     }
 }
 
+fn has_faults(store: &mut MemoryStore) -> bool {
+    let mut right = true;
+    for (name, faults) in [("b", 1), ("c", 2), ("", 3), ("b", 4)] {
+        right = right && fails(store, name, faults);
+    }
+    right && gives(store, "a", b"version = 1") && store.faults() == 4
+}
+
 #[test]
 fn a_store_and_its_faults(rt: HostRuntime) -> Result<(), Fail> {
     let mut store = store(rt.alloc())?;
-    for (name, faults) in [("b", 1), ("c", 2), ("", 3), ("b", 4)] {
-        assert!(rt; fails(&mut store, name, faults), "{name}");
-    }
-    assert!(rt; gives(&mut store, "a", b"version = 1"));
-    assert_eq!(rt; store.faults(), 4);
+    let right = has_faults(&mut store);
+    assert!(rt; right);
     Ok(())
 }
 
@@ -156,14 +163,15 @@ fn puts(sink: &mut MemorySink) -> bool {
         && sink.put(b"cdef") == Err(SinkFault::Failed)
         && sink.faults() == 1
         && sink.put(b"g").is_ok()
+        && sink.written() == b"abcdg".as_slice()
+        && sink.faults() == 1
 }
 
 #[test]
 fn a_sink_and_its_faults(rt: HostRuntime) -> Result<(), Fail> {
     let alloc = rt.alloc();
     let mut sink = MemorySink::new(alloc, vec![in alloc; 1]?);
-    assert!(rt; puts(&mut sink));
-    assert_eq!(rt; sink.written(), b"abcdg".as_slice());
-    assert_eq!(rt; sink.faults(), 1);
+    let right = puts(&mut sink);
+    assert!(rt; right);
     Ok(())
 }

@@ -8,7 +8,7 @@ use std::test::Fail;
 
 const STARTED: &[&str] = &["WantChild", "WantClient"];
 
-pub const ROWS: [Row; 7] = [
+static ROWS: [Row; 7] = [
     Row {
         name: "texts, lines, and the end of the output",
         limit: 65_536,
@@ -112,9 +112,13 @@ pub const ROWS: [Row; 7] = [
     },
 ];
 
+pub fn rows() -> &'static [Row] {
+    &ROWS
+}
+
 #[test]
 fn texts_become_lines_and_lines_messages(rt: HostRuntime) -> Result<(), Fail> {
-    let said = check(rt.alloc(), ROWS.as_slice())?;
+    let said = check(rt.alloc(), rows())?;
     assert_eq!(rt; said.as_str(), "");
     Ok(())
 }
