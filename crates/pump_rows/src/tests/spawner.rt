@@ -15,22 +15,38 @@ use std::test::Fail;
 use std::time::{Clock, Duration};
 use std_spawner::*;
 
-// A program with one word, or with none where that is empty.
-fn launch(alloc: Global, program: &str, word: &str) -> Result<Launch, NoMemory> {
-    let mut args = Vec::new(alloc);
+// One word, or none where it is empty.
+fn args_of(alloc: Global, word: &str) -> Result<Texts, NoMemory> {
+    let mut args = Texts::new(alloc);
     if !word.is_empty() {
         args.push(Text::copy_of(alloc, word)?)?;
     }
-    let mut env = Vec::new(alloc);
-    env.push(Pair {
-        name: Text::copy_of(alloc, "WORD")?,
-        value: Text::copy_of(alloc, "given")?,
-    })?;
+    Ok(args)
+}
+
+fn pair(alloc: Global) -> Result<Pair, NoMemory> {
+    let name = Text::copy_of(alloc, "WORD")?;
+    let value = Text::copy_of(alloc, "given")?;
+    Ok(Pair { name, value })
+}
+
+fn env(alloc: Global) -> Result<Pairs, NoMemory> {
+    let mut env = Pairs::new(alloc);
+    env.push(pair(alloc)?)?;
+    Ok(env)
+}
+
+// A program with one word, or with none where that is empty.
+fn launch(alloc: Global, program: &str, word: &str) -> Result<Launch, NoMemory> {
+    let program = Text::copy_of(alloc, program)?;
+    let dir = Text::copy_of(alloc, "/")?;
+    let args = args_of(alloc, word)?;
+    let env = env(alloc)?;
     Ok(Launch {
-        program: Text::copy_of(alloc, program)?,
-        dir: Text::copy_of(alloc, "/")?,
-        args: Texts::from_vec(args),
-        env: Pairs::from_vec(env),
+        program,
+        dir,
+        args,
+        env,
     })
 }
 
@@ -57,15 +73,27 @@ impl Told {
 
     fn hear(&mut self, event: &Event) -> Result<(), AllocError> {
         match event {
-            Event::ChildBytes { bytes, .. } => self.output.extend_from_slice(bytes.as_slice())?,
-            Event::Took { n, .. } => self.taken = self.taken.saturating_add(*n),
-            Event::ChildEof { .. } => self.letters.push(b'e')?,
-            Event::ChildBroken { .. } => self.letters.push(b'x')?,
-            Event::InputGone { .. } => self.letters.push(b'g')?,
-            Event::Exited { .. } => self.letters.push(b'd')?,
-            _ => self.letters.push(b'?')?,
+            Event::ChildBytes { bytes, .. } => self.output.extend_from_slice(bytes.as_slice()),
+            Event::Took { n, .. } => {
+                self.taken = self.taken.saturating_add(*n);
+                Ok(())
+            }
+            event => {
+                self.letters.push(letter(event))?;
+                Ok(())
+            }
         }
-        Ok(())
+    }
+}
+
+// What an event is that brings nothing, by a letter.
+fn letter(event: &Event) -> u8 {
+    match event {
+        Event::ChildEof { .. } => b'e',
+        Event::ChildBroken { .. } => b'x',
+        Event::InputGone { .. } => b'g',
+        Event::Exited { .. } => b'd',
+        _ => b'?',
     }
 }
 
@@ -124,7 +152,8 @@ fn refuses<R: Processes<Started = SystemProcess> + Wait + Clock + Copy + Drop>(
     requires { AllSound kid_tells set.old.rows.items }
     ensures { AllSound kid_tells set.new.rows.items }
 {
-    let started = start_in(set, 0, &launch(alloc, program, "")?);
+    let launch = launch(alloc, program, "")?;
+    let started = start_in(set, 0, &launch);
     Ok(started == Err(SpawnFault::Failed) && set.is_empty())
 }
 
@@ -137,6 +166,22 @@ struct Run<'r, R> {
 }
 
 impl<R: Processes<Started = SystemProcess> + Wait + Clock + Copy + Drop> Run<'_, R> {
+    // Starts a program as child k.
+    fn begin(
+        &self,
+        set: &mut ChildSet<StdSpawner<R, ThreadStarter>>,
+        k: u64,
+        program: &str,
+        word: &str,
+    ) -> Result<(), Fail>
+        requires { AllSound kid_tells set.old.rows.items }
+        ensures { AllSound kid_tells set.new.rows.items }
+    {
+        let launch = launch(self.alloc, program, word)?;
+        start_in(set, k, &launch)?;
+        Ok(())
+    }
+
     // Whether a program takes all of its input, gives this output, and exits.
     fn gives(
         &self,
@@ -149,7 +194,7 @@ impl<R: Processes<Started = SystemProcess> + Wait + Clock + Copy + Drop> Run<'_,
         requires { AllSound kid_tells set.old.rows.items }
         ensures { AllSound kid_tells set.new.rows.items }
     {
-        start_in(set, 0, &launch(self.alloc, program, word)?)?;
+        self.begin(set, 0, program, word)?;
         set.feed(0, input)?;
         set.end_input(0);
         let told = told_by(self.rt, self.alloc, self.sleeper, set)?;
@@ -204,7 +249,7 @@ impl<R: Processes<Started = SystemProcess> + Wait + Clock + Copy + Drop> Run<'_,
         requires { AllSound kid_tells set.old.rows.items }
         ensures { AllSound kid_tells set.new.rows.items }
     {
-        start_in(set, 0, &launch(self.alloc, "/bin/true", "")?)?;
+        self.begin(set, 0, "/bin/true", "")?;
         set.feed(0, much)?;
         let told = told_by(self.rt, self.alloc, self.sleeper, set)?;
         Ok(
@@ -221,7 +266,7 @@ impl<R: Processes<Started = SystemProcess> + Wait + Clock + Copy + Drop> Run<'_,
         requires { AllSound kid_tells set.old.rows.items }
         ensures { AllSound kid_tells set.new.rows.items }
     {
-        start_in(set, 0, &launch(self.alloc, "/bin/sleep", "1000")?)?;
+        self.begin(set, 0, "/bin/sleep", "1000")?;
         set.end_input(0);
         set.kill(0);
         let told = told_by(self.rt, self.alloc, self.sleeper, set)?;
@@ -232,9 +277,9 @@ impl<R: Processes<Started = SystemProcess> + Wait + Clock + Copy + Drop> Run<'_,
     fn are_ended(&self, set: &mut ChildSet<StdSpawner<R, ThreadStarter>>) -> Result<bool, Fail>
         requires { AllSound kid_tells set.old.rows.items }
     {
-        start_in(set, 0, &launch(self.alloc, "/bin/sleep", "1000")?)?;
-        start_in(set, 1, &launch(self.alloc, "/bin/sleep", "1000")?)?;
-        start_in(set, 2, &launch(self.alloc, "/bin/sleep", "1000")?)?;
+        self.begin(set, 0, "/bin/sleep", "1000")?;
+        self.begin(set, 1, "/bin/sleep", "1000")?;
+        self.begin(set, 2, "/bin/sleep", "1000")?;
         let running = set.running();
         set.end();
         Ok(running == 3 && set.is_empty())

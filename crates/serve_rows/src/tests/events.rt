@@ -115,11 +115,27 @@ fn line_of(alloc: Global, event: &Event) -> Result<String, Fail> {
     })
 }
 
-fn lists(rt: &impl Abort, alloc: Global, seed: u64, count: u32, wanted: &str) -> Result<(), Fail> {
-    let mut lines = String::new(alloc);
-    for event in sample(alloc, seed, count)?.as_slice() {
-        lines.push_str(line_of(alloc, event)?.as_str())?;
+fn push_line(lines: &mut String, alloc: Global, event: &Event) -> Result<(), Fail> {
+    lines.push_str(line_of(alloc, event)?.as_str())?;
+    Ok(())
+}
+
+fn push_lines(lines: &mut String, alloc: Global, events: &[Event]) -> Result<(), Fail> {
+    for event in events {
+        push_line(lines, alloc, event)?;
     }
+    Ok(())
+}
+
+fn lines_of(alloc: Global, seed: u64, count: u32) -> Result<String, Fail> {
+    let events = sample(alloc, seed, count)?;
+    let mut lines = String::new(alloc);
+    push_lines(&mut lines, alloc, events.as_slice())?;
+    Ok(lines)
+}
+
+fn lists(rt: &impl Abort, alloc: Global, seed: u64, count: u32, wanted: &str) -> Result<(), Fail> {
+    let lines = lines_of(alloc, seed, count)?;
     assert_eq!(rt; lines.as_str(), wanted, "seed {seed}");
     Ok(())
 }
@@ -149,13 +165,19 @@ fn accept(alloc: Global, items: &mut Vec<Item>) -> Result<(), NoMemory> {
     Ok(())
 }
 
-fn start(alloc: Global, k: u64, items: &mut Vec<Item>) -> Result<(), NoMemory> {
-    let launch = Launch {
-        program: Text::copy_of(alloc, "/bin/cat")?,
-        dir: Text::copy_of(alloc, "/bin")?,
+fn launch(alloc: Global) -> Result<Launch, NoMemory> {
+    let program = Text::copy_of(alloc, "/bin/cat")?;
+    let dir = Text::copy_of(alloc, "/bin")?;
+    Ok(Launch {
+        program,
+        dir,
         args: Texts::new(alloc),
         env: Pairs::new(alloc),
-    };
+    })
+}
+
+fn start(alloc: Global, k: u64, items: &mut Vec<Item>) -> Result<(), NoMemory> {
+    let launch = launch(alloc)?;
     items.push(Item::Out(Act::Start {
         k,
         c: 0,
@@ -166,12 +188,10 @@ fn start(alloc: Global, k: u64, items: &mut Vec<Item>) -> Result<(), NoMemory> {
     Ok(())
 }
 
-#[test]
-fn the_report_of_a_trace(rt: HostRuntime) -> Result<(), Fail> {
-    let alloc = rt.alloc();
-    let mut items = Vec::new(alloc);
+// Seven connections, and replies to five of them and to one that is none.
+fn push_replies(alloc: Global, items: &mut Vec<Item>) -> Result<(), NoMemory> {
     for c in 0..7 {
-        accept(alloc, &mut items)?;
+        accept(alloc, items)?;
     }
     for (c, code) in [
         (5, "502 Bad"),
@@ -179,19 +199,47 @@ fn the_report_of_a_trace(rt: HostRuntime) -> Result<(), Fail> {
         (2, "404 Not"),
         (3, "200"),
         (4, "20"),
+        (7, "200 OK"),
     ] {
-        reply(alloc, c, code, &mut items)?;
+        reply(alloc, c, code, items)?;
     }
-    reply(alloc, 7, "200 OK", &mut items)?;
-    start(alloc, 0, &mut items)?;
-    start(alloc, 1, &mut items)?;
+    Ok(())
+}
+
+// Two children, of which one has exited, and the end.
+fn push_children(alloc: Global, items: &mut Vec<Item>) -> Result<(), NoMemory> {
+    start(alloc, 0, items)?;
+    start(alloc, 1, items)?;
     items.push(Item::In(Event::Exited { k: 1 }))?;
     items.push(Item::In(Event::Stop))?;
-    let text = sample_text(alloc, items.as_slice())?;
-    let wanted =
-        "connections 7\nnone 2\nstatus 200 2\nstatus 404 1\nstatus 502 1\nstarts 2\nreaps 1\n";
-    assert_eq!(&rt; text.as_str(), wanted);
-    let text = sample_text(alloc, &[])?;
-    assert_eq!(&rt; text.as_str(), "connections 0\nnone 0\nstarts 0\nreaps 0\n");
+    Ok(())
+}
+
+fn a_trace(alloc: Global) -> Result<Vec<Item>, NoMemory> {
+    let mut items = Vec::new(alloc);
+    push_replies(alloc, &mut items)?;
+    push_children(alloc, &mut items)?;
+    Ok(items)
+}
+
+// Whether this is the report of a trace.
+fn is_report(alloc: Global, items: &[Item], wanted: &str) -> Result<bool, NoMemory> {
+    let text = sample_text(alloc, items)?;
+    Ok(text.as_str() == wanted)
+}
+
+const REPORT: &str =
+    "connections 7\nnone 2\nstatus 200 2\nstatus 404 1\nstatus 502 1\nstarts 2\nreaps 1\n";
+
+fn is_reported(alloc: Global) -> Result<bool, NoMemory> {
+    let items = a_trace(alloc)?;
+    is_report(alloc, items.as_slice(), REPORT)
+}
+
+#[test]
+fn the_report_of_a_trace(rt: HostRuntime) -> Result<(), Fail> {
+    assert!(rt; is_reported(rt.alloc())?);
+    let none = "connections 0\nnone 0\nstarts 0\nreaps 0\n";
+    assert!(rt; is_report(rt.alloc(), &[], none)?);
     Ok(())
 }

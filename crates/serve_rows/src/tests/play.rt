@@ -118,16 +118,21 @@ fn act_line(alloc: Global, act: &Act) -> Result<String, Fail> {
     })
 }
 
+fn push_line(lines: &mut String, alloc: Global, item: &Item) -> Result<(), Fail> {
+    let line = match item {
+        Item::In(event) => event_line(alloc, event)?,
+        Item::Out(act) => act_line(alloc, act)?,
+    };
+    lines.push_str(line.as_str())?;
+    lines.push_str("\n")?;
+    Ok(())
+}
+
 /// The items as lines.
 pub fn lines_of(alloc: Global, items: &[Item]) -> Result<String, Fail> {
     let mut lines = String::new(alloc);
     for item in items {
-        let line = match item {
-            Item::In(event) => event_line(alloc, event)?,
-            Item::Out(act) => act_line(alloc, act)?,
-        };
-        lines.push_str(line.as_str())?;
-        lines.push_str("\n")?;
+        push_line(&mut lines, alloc, item)?;
     }
     Ok(lines)
 }

@@ -4,12 +4,37 @@ ghost use Rattle.std.specs.Prelude.{◌≤◌, ◌^◌};
 use super::play::{ANSWERED, BEGUN, lines_of, outside, site};
 use host_loop::{LoopEnd, WorldEnd};
 use host_serve::serve_site;
-use host_trace::Mode;
+use host_trace::{Item, Mode};
 use memory_world::MemoryWorld;
 use std::alloc::Global;
 use std::process::Abort;
 use std::test::Fail;
 use std::thread::Threads;
+
+fn world(alloc: Global, counts: [usize; 2], limit: u32) -> Result<MemoryWorld, Fail> {
+    let first = outside(alloc, counts[0], limit)?;
+    let second = outside(alloc, counts[1], limit)?;
+    let outs = vec![in alloc; first, second]?;
+    Ok(MemoryWorld::new(alloc, outs))
+}
+
+// Whether a trace has these lines.
+fn has_lines(alloc: Global, items: &[Item], text: &str) -> Result<bool, Fail> {
+    let lines = lines_of(alloc, items)?;
+    Ok(lines.as_str() == text)
+}
+
+// Whether this is told of the two loops.
+fn is_told(alloc: Global, world: &MemoryWorld, [one, two]: [&str; 2]) -> Result<bool, Fail> {
+    match world.given() {
+        [first, second] => Ok(
+            world.tells()
+                && has_lines(alloc, first.as_slice(), one)?
+                && has_lines(alloc, second.as_slice(), two)?,
+        ),
+        _ => Ok(false),
+    }
+}
 
 // Two loops, which hear so many events of a GET and then, where it is answered, Stop, with so many turns each: how they end,
 // and what is told of each.
@@ -24,20 +49,10 @@ fn serves<R: Threads + Abort + Sync>(
     requires { turns ≤ 2 ^ 62 }
 {
     let site = site(alloc)?;
-    let limit = site.limits.children;
-    let outs = vec![in alloc;
-        outside(alloc, counts[0], limit)?,
-        outside(alloc, counts[1], limit)?,
-    ]?;
-    let mut world = MemoryWorld::new(alloc, outs);
+    let mut world = world(alloc, counts, site.limits.children)?;
     let ended = serve_site(rt, alloc, Mode::Serve, &site, 2, turns, &mut world);
-    assert_eq!(rt; ended, WorldEnd::Ended(end));
-    assert!(rt; world.tells());
-    assert_eq!(rt; world.given().len(), 2);
-    for (items, text) in world.given().iter().zip(told) {
-        let lines = lines_of(alloc, items.as_slice())?;
-        assert_eq!(rt; lines.as_str(), text);
-    }
+    let right = ended == WorldEnd::Ended(end) && is_told(alloc, &world, told)?;
+    assert!(rt; right);
     Ok(())
 }
 
