@@ -84,7 +84,7 @@ if has wget; then
     if [ "$(wget -q -T 20 -t 1 -O - "$url/hi")" = hi ]; then ok; else bad 'wget'; fi
 fi
 
-# ---- once a program has exited nothing wakes its loop between two ticks
+# ---- once its programs have exited a loop sleeps little more often than its clock ticks
 if [ -z "$loops" ]; then
     slept=0
     for _ in 1 2 3 4 5; do
