@@ -70,9 +70,6 @@ front_two b m a xs ys zs g h =
 pub moves_front : (b a : Option (List ℕ)) (xs ys : List ℕ) → Moves b a xs ys → MovesFront b a xs ys
 moves_front b a xs ys g = record { piece = g.piece; grew = g.grew; took = whole_front b a g.piece g.took }
 
-pub moves_none : (b a : Option (List ℕ)) (xs : List ℕ) → Appends b a [] → Moves b a xs xs
-moves_none b a xs g = record { piece = []; grew = sym (append-nil xs); took = g }
-
 pub moves_start : (b : Option (List ℕ)) (xs : List ℕ) → Moves b b xs xs
 moves_start None xs = record { piece = []; grew = sym (append-nil xs); took = tt }
 moves_start (Some u) xs = record { piece = []; grew = sym (append-nil xs); took = sym (append-nil u) }

@@ -1,4 +1,5 @@
 pub mod Fronts
+pub mod Steps
 pub mod Gone
 pub mod Crosses
 pub mod Handed

@@ -1,5 +1,5 @@
 // The pump from a pipe to a ring.
-ghost use Rattle.std.specs.Prelude.{◌≡◌, ◌≤◌, ◌<◌, ◌^◌, ◌↔◌, ◌++◌, ℕ, List, [], Option, false, IfOk, length, vec_len};
+ghost use Rattle.std.specs.Prelude.{◌≡◌, ◌≤◌, ◌<◌, ◌^◌, ◌↔◌, ◌++◌, ℕ, Bool, List, [], Option, false, IfOk, length, vec_len};
 ghost use Rattle.std.specs.Io.KnownBytes.{Consumes, IsAtEnd};
 ghost use Rattle.host_base.specs.Outsides.{Rose};
 ghost use Rattle.rtrb.specs.Ring.{SameProducer};
@@ -144,7 +144,6 @@ fn known_end(is_last: bool) -> Option<PumpEnd>
 
 // Puts a piece into the ring, and waits for room. Before it waits the pipe is told, which may end then. It
 // answers how the pump ends with this piece, if it does.
-#[tactic(auto, using(crate::proofs::Gone::known_later))]
 fn send<R: Wait, P: PipeIn>(
     rt: &R,
     pipe: &mut P,
@@ -174,12 +173,22 @@ fn send<R: Wait, P: PipeIn>(
         if is_gone {
             return Some(PumpEnd::Abandoned);
         }
-        if ended.is_none() {
-            ended = tell(pipe);
-        }
+        ended = tell_unless_ended(pipe, ended);
         parker.park(rt);
     }
     unreachable!()
+}
+
+// Tells the pipe, where it is not known yet how the pump ends.
+fn tell_unless_ended<P: PipeIn>(pipe: &mut P, ended: Option<PumpEnd>) -> Option<PumpEnd>
+    ensures pipe { Consumes (P.left pipe.old) (P.left pipe.new) [] }
+    ensures count { P.faults pipe.old ≤ P.faults pipe.new }
+    ensures ends { (is_last : Bool) (before : ℕ) → before ≤ P.faults pipe.old → KnownEnd is_last (P.left pipe.old) before (P.faults pipe.old) ended → KnownEnd is_last (P.left pipe.new) before (P.faults pipe.new) result }
+{
+    match ended {
+        Some(_) => ended,
+        None => tell(pipe),
+    }
 }
 
 // Tells the pipe that its bytes wait in the ring.

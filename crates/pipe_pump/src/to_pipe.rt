@@ -84,7 +84,6 @@ fn done<P>(
 }
 
 // Moves bytes until the other end of the ring was handed over.
-#[tactic(auto, using(crate::proofs::Fronts::moves_two, crate::proofs::Fronts::stops_two))]
 fn pump_open<R: Wait, P: PipeOut>(
     rt: &R,
     pipe: &mut P,
@@ -113,16 +112,17 @@ fn pump_open<R: Wait, P: PipeOut>(
             Ok(count) => count,
             Err(end) => return Err(end),
         };
-        grow(buffer, count);
-        if count == 0 {
-            if let Some(producer) = take_hand(hand, consumer) {
-                return Ok(producer);
-            }
-            if is_last {
-                return Err(PumpEnd::Abandoned);
-            }
-            parker.park(rt);
+        if count > 0 {
+            grow(buffer, count);
+            continue;
         }
+        if let Some(producer) = take_hand(hand, consumer) {
+            return Ok(producer);
+        }
+        if is_last {
+            return Err(PumpEnd::Abandoned);
+        }
+        parker.park(rt);
     }
     unreachable!()
 }
@@ -177,8 +177,7 @@ fn pump_rest<R: Wait, P: PipeOut>(
     unreachable!()
 }
 
-// Moves one piece, if there is any. Where that empties the ring the pipe is told before it is written to.
-#[tactic(auto, using(crate::proofs::Fronts::piece_moves, crate::proofs::Fronts::piece_front, crate::proofs::Fronts::moves_none))]
+// Moves one piece, if there is any, of no more bytes than the pump may still move.
 fn move_some<P: PipeOut>(
     pipe: &mut P,
     consumer: &mut Consumer<u8>,
@@ -197,7 +196,28 @@ fn move_some<P: PipeOut>(
     ensures most { OnOk result (total.new < 2 ^ 62) }
 {
     let room = buffer.len().min((MOST - *total) as usize);
-    let count = pop(consumer, &mut buffer[..room]);
+    move_piece(pipe, consumer, total, &mut buffer[..room])
+}
+
+// .. and no more than the buffer holds. Where that empties the ring the pipe is told before it is written to.
+fn move_piece<P: PipeOut>(
+    pipe: &mut P,
+    consumer: &mut Consumer<u8>,
+    total: &mut u64,
+    buffer: &mut [u8],
+) -> Result<usize, PumpEnd>
+    requires total { length (received consumer.old) ≡ total.old }
+    requires most { total.old + length buffer.old ≤ 2 ^ 62 }
+    requires room { 0 < length buffer.old }
+    ensures ring { SameConsumer consumer.old consumer.new }
+    ensures moved { OnOk result (Moves (P.taken pipe.old) (P.taken pipe.new) (received consumer.old) (received consumer.new)) }
+    ensures none { result ≡ Ok 0 → known_items consumer.new ≡ [] }
+    ensures count { P.faults pipe.old ≤ P.faults pipe.new }
+    ensures stops { IfErr result (λ end. Stops ⊥ ⊥ end (P.taken pipe.old) (P.taken pipe.new) (P.faults pipe.old) (P.faults pipe.new) (received consumer.old) (received consumer.new)) }
+    ensures total { length (received consumer.new) ≡ total.new }
+    ensures most { OnOk result (total.new < 2 ^ 62) }
+{
+    let count = pop(consumer, buffer);
     if count == 0 {
         return Ok(0);
     }
