@@ -1,11 +1,11 @@
 // What is counted of a connection.
-ghost use Rattle.std.specs.Prelude.{◌≡◌, IfSome, if◌then◌else◌};
-ghost use Rattle.host_trace.specs.Kinds.{is_client_answer, is_want_client, is_shut, is_upgrade};
+ghost use Rattle.std.specs.Prelude.{◌≡◌, IfSome};
 ghost use Rattle.memory_world.specs.ClientTallies.{client_with, no_client, sent_with, left_with};
 
 use super::fit::one_if;
+use super::kinds::{is_client_answer, is_shut, is_upgrade, is_want_client};
 use super::sums::{text_len, texts_by, written_by, wrote_by};
-use host_trace::{Act, Event, Item};
+use host_trace::Item;
 
 /// How often its client was asked and answered, how many bytes were sent in this phase and left, and whether
 /// it is shut and upgraded.
@@ -17,38 +17,6 @@ pub struct ClientTally {
     pub left: u128,
     pub is_shut: bool,
     pub is_upgraded: bool,
-}
-
-fn is_want_client(item: &Item, c: u64) -> bool
-    ensures { result ≡ is_want_client c item.now }
-{
-    matches!(item, Item::Out(Act::WantClient { c: d }) if c == *d)
-}
-
-fn is_client_answer(item: &Item, c: u64) -> bool
-    ensures { result ≡ is_client_answer c item.now }
-{
-    match item {
-        Item::In(Event::ClientBytes { c: d, .. }) => c == *d,
-        Item::In(Event::ClientEof { c: d }) => c == *d,
-        Item::In(Event::WsText { c: d, .. }) => c == *d,
-        Item::In(Event::WsBinary { c: d }) => c == *d,
-        Item::In(Event::WsClosed { c: d }) => c == *d,
-        Item::In(Event::WsBad { c: d }) => c == *d,
-        _ => false,
-    }
-}
-
-fn is_shut(item: &Item, c: u64) -> bool
-    ensures { result ≡ is_shut c item.now }
-{
-    matches!(item, Item::Out(Act::Shut { c: d, .. }) if c == *d)
-}
-
-fn is_upgrade(item: &Item, c: u64) -> bool
-    ensures { result ≡ is_upgrade c item.now }
-{
-    matches!(item, Item::Out(Act::Upgrade { c: d, .. }) if c == *d)
 }
 
 impl ClientTally {
@@ -97,8 +65,8 @@ impl ClientTally {
             answers: self.answers.checked_add(one_if(is_client_answer(item, c)))?,
             sent: self.sent_with(item, c)?,
             left: self.left_with(item, c)?,
-            is_shut: self.is_shut || is_shut(item, c),
-            is_upgraded: self.is_upgraded || is_upgrade(item, c),
+            is_shut: self.is_shut | is_shut(item, c),
+            is_upgraded: self.is_upgraded | is_upgrade(item, c),
         })
     }
 }

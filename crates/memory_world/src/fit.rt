@@ -1,28 +1,19 @@
 // Whether an event may come next after a trace.
-ghost use Rattle.std.specs.Prelude.{◌≡◌, ◌+◌, ◌-◌, ◌^◌, ◌≤◌, ◌<◌, min, length, count_by, nat_le, position, if◌then◌else◌};
+ghost use Rattle.std.specs.Prelude.{◌≡◌, ◌+◌, ◌-◌, ◌^◌, ◌≤◌, ◌<◌, length, count_by, nat_le, position, if◌then◌else◌};
 ghost use Rattle.std.specs.List.{list_any};
-ghost use Rattle.host_trace.specs.Kinds.{is_accepted, is_stop, is_client_answer, is_want_client, is_shut, is_upgrade, is_start, is_started, is_start_answer, is_child_answer, is_want_child, is_output_end, is_input_end, is_exited};
+ghost use Rattle.host_trace.specs.Kinds.{is_accepted, is_upgrade};
 ghost use Rattle.host_trace.specs.First.{since};
-ghost use Rattle.host_trace.specs.Projections.{stopped, shut, upgraded, is_known, accepted_count, client_wanted, child_wanted, start_stands, start_answered, started, exited, input_ended, output_ended, sent_of_phase, left_of_phase, child_in, took_sum};
+ghost use Rattle.host_trace.specs.Projections.{stopped, shut, upgraded, is_known, client_wanted, child_wanted, start_stands, start_answered, started, exited, input_ended, output_ended, sent_of_phase, left_of_phase, child_in, took_sum};
 ghost use Rattle.host_trace.specs.Fits.{fits, is_piece, is_open, is_asked, is_asked_upgraded, may_leave, is_start_open, is_output_asked, may_take};
 
+use super::kinds::{
+    is_accepted, is_child_answer, is_client_answer, is_exited, is_input_end, is_output_end,
+    is_shut, is_start, is_start_answer, is_started, is_stop, is_upgrade, is_want_child,
+    is_want_client,
+};
 use super::sums::{fed_len, said_len, took_sum, written_len, wrote_sum};
 use host_base::Bytes;
-use host_trace::{Act, Event, Item};
-
-/// Whether a client connected.
-pub fn is_accepted(item: &Item) -> bool
-    ensures { result ≡ is_accepted item.now }
-{
-    matches!(item, Item::In(Event::Accepted { .. }))
-}
-
-/// Whether the server is to end.
-pub fn is_stop(item: &Item) -> bool
-    ensures { result ≡ is_stop item.now }
-{
-    matches!(item, Item::In(Event::Stop))
-}
+use host_trace::{Event, Item};
 
 /// One where it is true.
 pub fn one_if(test: bool) -> u64
@@ -47,126 +38,63 @@ fn count_accepted(items: &[Item]) -> usize
 pub fn stopped(items: &[Item]) -> bool
     ensures { result ≡ stopped items.now }
 {
-    items.iter().any(|x| matches!(x, Item::In(Event::Stop)))
+    items.iter().any(is_stop)
 }
 
 fn shut(items: &[Item], c: u64) -> bool
     ensures { result ≡ shut items.now c }
 {
-    items.iter().any(|x| matches!(x, Item::Out(Act::Shut { c: d, .. }) if c == *d))
+    items.iter().any(|item| is_shut(item, c))
 }
 
 fn upgraded(items: &[Item], c: u64) -> bool
     ensures { result ≡ upgraded items.now c }
 {
-    items.iter().any(|x| matches!(x, Item::Out(Act::Upgrade { c: d, .. }) if c == *d))
-}
-
-fn client_answers(items: &[Item], c: u64) -> usize
-    ensures { result ≡ count_by (is_client_answer c) items.now }
-{
-    items
-        .iter()
-        .filter(|x| match x {
-            Item::In(Event::ClientBytes { c: d, .. }) => c == *d,
-            Item::In(Event::ClientEof { c: d }) => c == *d,
-            Item::In(Event::WsText { c: d, .. }) => c == *d,
-            Item::In(Event::WsBinary { c: d }) => c == *d,
-            Item::In(Event::WsClosed { c: d }) => c == *d,
-            Item::In(Event::WsBad { c: d }) => c == *d,
-            _ => false,
-        })
-        .count()
-}
-
-fn client_wants(items: &[Item], c: u64) -> usize
-    ensures { result ≡ count_by (is_want_client c) items.now }
-{
-    items
-        .iter()
-        .filter(|x| matches!(x, Item::Out(Act::WantClient { c: d }) if c == *d))
-        .count()
-}
-
-fn child_answers(items: &[Item], k: u64) -> usize
-    ensures { result ≡ count_by (is_child_answer k) items.now }
-{
-    items
-        .iter()
-        .filter(|x| match x {
-            Item::In(Event::ChildBytes { k: d, .. }) => k == *d,
-            Item::In(Event::ChildEof { k: d }) => k == *d,
-            Item::In(Event::ChildBroken { k: d }) => k == *d,
-            _ => false,
-        })
-        .count()
-}
-
-fn child_wants(items: &[Item], k: u64) -> usize
-    ensures { result ≡ count_by (is_want_child k) items.now }
-{
-    items
-        .iter()
-        .filter(|x| matches!(x, Item::Out(Act::WantChild { k: d }) if k == *d))
-        .count()
+    items.iter().any(|item| is_upgrade(item, c))
 }
 
 fn start_stands(items: &[Item], k: u64) -> bool
     ensures { result ≡ start_stands items.now k }
 {
-    items.iter().any(|x| matches!(x, Item::Out(Act::Start { k: d, .. }) if k == *d))
+    items.iter().any(|item| is_start(item, k))
 }
 
 /// Whether an event answered the Start of child `k`.
 pub fn start_answered(items: &[Item], k: u64) -> bool
     ensures { result ≡ start_answered items.now k }
 {
-    items.iter().any(|x| match x {
-        Item::In(Event::Started { k: d }) => k == *d,
-        Item::In(Event::StartFailed { k: d }) => k == *d,
-        Item::In(Event::StartFull { k: d, .. }) => k == *d,
-        _ => false,
-    })
+    items.iter().any(|item| is_start_answer(item, k))
 }
 
 fn started(items: &[Item], k: u64) -> bool
     ensures { result ≡ started items.now k }
 {
-    items.iter().any(|x| matches!(x, Item::In(Event::Started { k: d }) if k == *d))
+    items.iter().any(|item| is_started(item, k))
 }
 
 /// Whether child `k` was reaped.
 pub fn exited(items: &[Item], k: u64) -> bool
     ensures { result ≡ exited items.now k }
 {
-    items.iter().any(|x| matches!(x, Item::In(Event::Exited { k: d }) if k == *d))
+    items.iter().any(|item| is_exited(item, k))
 }
 
 fn input_ended(items: &[Item], k: u64) -> bool
     ensures { result ≡ input_ended items.now k }
 {
-    items.iter().any(|x| match x {
-        Item::Out(Act::EndInput { k: d }) => k == *d,
-        Item::In(Event::InputGone { k: d }) => k == *d,
-        _ => false,
-    })
+    items.iter().any(|item| is_input_end(item, k))
 }
 
 fn output_ended(items: &[Item], k: u64) -> bool
     ensures { result ≡ output_ended items.now k }
 {
-    items.iter().any(|x| match x {
-        Item::In(Event::ChildEof { k: d }) => k == *d,
-        Item::In(Event::ChildBroken { k: d }) => k == *d,
-        Item::Out(Act::Release { k: d }) => k == *d,
-        _ => false,
-    })
+    items.iter().any(|item| is_output_end(item, k))
 }
 
 fn upgrade_at(items: &[Item], c: u64) -> Option<usize>
     ensures { result ≡ position (is_upgrade c) items.now }
 {
-    items.iter().position(|x| matches!(x, Item::Out(Act::Upgrade { c: d, .. }) if c == *d))
+    items.iter().position(|item| is_upgrade(item, c))
 }
 
 // The items after Upgrade.
@@ -194,13 +122,25 @@ fn is_open(items: &[Item], c: u64) -> bool
 fn client_wanted(items: &[Item], c: u64) -> bool
     ensures { result ≡ client_wanted items.now c }
 {
-    client_answers(items, c) < client_wants(items, c)
+    let mut wants = 0u64;
+    let mut answers = 0u64;
+    for item in items {
+        wants += one_if(is_want_client(item, c));
+        answers += one_if(is_client_answer(item, c));
+    }
+    answers < wants
 }
 
 fn child_wanted(items: &[Item], k: u64) -> bool
     ensures { result ≡ child_wanted items.now k }
 {
-    child_answers(items, k) < child_wants(items, k)
+    let mut wants = 0u64;
+    let mut answers = 0u64;
+    for item in items {
+        wants += one_if(is_want_child(item, k));
+        answers += one_if(is_child_answer(item, k));
+    }
+    answers < wants
 }
 
 fn is_asked(items: &[Item], c: u64) -> bool

@@ -9,6 +9,7 @@ mod counted;
 mod events;
 mod find;
 mod fit;
+mod kinds;
 mod open;
 mod outside;
 mod sink;

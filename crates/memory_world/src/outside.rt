@@ -156,18 +156,27 @@ impl MemoryOutside {
         ensures { result.given ≡ after_list (items_of self.now) }
     {
         let trace = &self.telling.trace;
-        let event = if !trace.is_stopped() {
-            (Event::Stop, Event::Stop)
-        } else if let Some(k) = trace.open_start() {
-            (Event::Started { k }, Event::Started { k })
-        } else if let Some(k) = trace.running_child() {
-            (Event::Exited { k }, Event::Exited { k })
-        } else {
-            (Event::Tick { secs: 0 }, Event::Tick { secs: 0 })
-        };
+        if !trace.is_stopped() {
+            return Listed {
+                told: Event::Stop,
+                given: Event::Stop,
+            };
+        }
+        if let Some(k) = trace.open_start() {
+            return Listed {
+                told: Event::Started { k },
+                given: Event::Started { k },
+            };
+        }
+        if let Some(k) = trace.running_child() {
+            return Listed {
+                told: Event::Exited { k },
+                given: Event::Exited { k },
+            };
+        }
         Listed {
-            told: event.0,
-            given: event.1,
+            told: Event::Tick { secs: 0 },
+            given: Event::Tick { secs: 0 },
         }
     }
 
