@@ -5,4 +5,5 @@ mod handshakes;
 mod lines;
 mod links;
 mod shown;
+mod tables;
 mod types;

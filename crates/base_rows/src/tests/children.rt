@@ -25,7 +25,7 @@ fn called(table: &mut Table, call: u8, k: u64) -> bool {
 // A call and a child; the call's answer, then the child's owner plus 1 or 0, whether it is settled, and how many are held.
 type Row = (u8, u64, bool, u64, bool, u32);
 
-const ROWS: [Row; 25] = [
+static ROWS: [Row; 25] = [
     (6, 7, false, 0, false, 0),
     (1, 7, false, 0, false, 0),
     (0, 7, true, 108, false, 1),

@@ -1,4 +1,5 @@
 // Deadlines, tick by tick.
+use super::tables::are_right;
 use limit_clock::Deadline;
 
 // The numbers of the ticks, of the first `count`, that meet a limit.
@@ -13,34 +14,40 @@ fn met_at(limit: u32, count: u32) -> u32 {
     sum
 }
 
+// A limit, how many ticks are heard, and the ticks that meet it.
+static MET: [(u32, u32, u32); 10] = [
+    (1, 0, 0),
+    (1, 1, 1),
+    (1, 5, 1),
+    (3, 2, 0),
+    (3, 3, 3),
+    (3, 9, 3),
+    (20, 19, 0),
+    (20, 40, 20),
+    (0, 9, 0),
+    (864_000, 99, 0),
+];
+
+fn is_met((limit, count, met): &(u32, u32, u32)) -> bool {
+    met_at(*limit, *count) == *met
+}
+
 #[test]
 fn the_tick_with_the_number_meets_the_limit(rt: HostRuntime) {
-    // limit, ticks heard, the ticks that met it
-    let rows = [
-        (1u32, 0u32, 0u32),
-        (1, 1, 1),
-        (1, 5, 1),
-        (3, 2, 0),
-        (3, 3, 3),
-        (3, 9, 3),
-        (20, 19, 0),
-        (20, 40, 20),
-        (0, 9, 0),
-        (864_000, 99, 0),
-    ];
-    for row in rows.iter() {
-        assert_eq!(rt; met_at(row.0, row.1), row.2);
-    }
+    are_right(&rt, &MET, is_met);
 }
 
 #[test]
 fn it_is_over_from_that_tick_on(rt: HostRuntime) {
     let mut deadline = Deadline::after(2);
-    assert!(rt; !deadline.is_over());
-    assert!(rt; !deadline.tick());
-    assert!(rt; !deadline.is_over());
-    assert!(rt; deadline.tick());
-    assert!(rt; deadline.is_over());
-    assert!(rt; !deadline.tick());
-    assert!(rt; deadline.is_over());
+    let heard = [
+        deadline.is_over(),
+        deadline.tick(),
+        deadline.is_over(),
+        deadline.tick(),
+        deadline.is_over(),
+        deadline.tick(),
+        deadline.is_over(),
+    ];
+    assert_eq!(rt; heard, [false, false, false, true, true, false, true]);
 }

@@ -1,4 +1,5 @@
 // Requests, and what a server owes them by RFC 6455 4.2.1 and 4.2.2.
+use super::tables::are_right_in;
 use host_base::{
     Bytes, Cause, Field, Fields, Framing, NoMemory, Request, Target, Text, Texts, Version,
 };
@@ -7,7 +8,7 @@ use std::test::Fail;
 use ws_handshake::{Accept, accept_text, check};
 
 // The fields of the request that the cases change.
-const FIELDS: [(&str, &str); 6] = [
+static FIELDS: [(&str, &str); 6] = [
     ("Host", "a"),
     ("Upgrade", "websocket"),
     ("Connection", "keep-alive, Upgrade"),
@@ -87,7 +88,9 @@ fn is_answered(request: &Request, origins: Option<&Texts>, answer: Result<&str, 
 }
 
 // What the fields say, and the answer where any origin is taken.
-const BY_FIELDS: [(&[Change], Result<&str, Cause>); 38] = [
+type ByFields = (&'static [Change<'static>], Result<&'static str, Cause>);
+
+static BY_FIELDS: [ByFields; 38] = [
     (&[], Ok(SAMPLE)),
     // The words of lists, in any case and at any place.
     (&[("Upgrade", &["WebSocket"])], Ok(SAMPLE)),
@@ -225,17 +228,19 @@ fn is_judged(
     Ok(is_answered(&request, None, answer))
 }
 
+fn is_judged_by_fields(alloc: Global, (changes, answer): &ByFields) -> Result<bool, NoMemory> {
+    is_judged(alloc, START, changes, *answer)
+}
+
 #[test]
 fn fields_are_judged(rt: HostRuntime) -> Result<(), Fail> {
-    for (changes, answer) in BY_FIELDS.iter() {
-        let judged = is_judged(rt.alloc(), START, changes, *answer)?;
-        assert!(rt; judged, "{changes:?}");
-    }
-    Ok(())
+    are_right_in(&rt, rt.alloc(), &BY_FIELDS, is_judged_by_fields)
 }
 
 // Request lines and framings, and the answer.
-const BY_START: [(&str, Version, Framing, Result<&str, Cause>); 8] = [
+type ByStart = (&'static str, Version, Framing, Result<&'static str, Cause>);
+
+static BY_START: [ByStart; 8] = [
     ("GET", Version::V11, Framing::Length(0), Ok(SAMPLE)),
     (
         "GET",
@@ -281,17 +286,26 @@ const BY_START: [(&str, Version, Framing, Result<&str, Cause>); 8] = [
     ),
 ];
 
+fn is_judged_by_start(
+    alloc: Global,
+    (method, version, framing, answer): &ByStart,
+) -> Result<bool, NoMemory> {
+    is_judged(alloc, (method, *version, *framing), &[], *answer)
+}
+
 #[test]
 fn request_lines_and_bodies_are_judged(rt: HostRuntime) -> Result<(), Fail> {
-    for (method, version, framing, answer) in BY_START.iter() {
-        let judged = is_judged(rt.alloc(), (method, *version, *framing), &[], *answer)?;
-        assert!(rt; judged, "{method} {framing:?}");
-    }
-    Ok(())
+    are_right_in(&rt, rt.alloc(), &BY_START, is_judged_by_start)
 }
 
 // What the fields say, the origins that are taken, and the answer.
-const BY_ORIGIN: [(&[Change], &[&str], Result<&str, Cause>); 12] = [
+type ByOrigin = (
+    &'static [Change<'static>],
+    &'static [&'static str],
+    Result<&'static str, Cause>,
+);
+
+static BY_ORIGIN: [ByOrigin; 12] = [
     (&[], &["http://example.com"], Ok(SAMPLE)),
     (&[], &["http://a", "http://example.com"], Ok(SAMPLE)),
     (&[("Origin", &["null"])], &["null"], Ok(SAMPLE)),
@@ -342,22 +356,16 @@ const BY_ORIGIN: [(&[Change], &[&str], Result<&str, Cause>); 12] = [
 // Whether a request is answered so where these origins are taken.
 fn is_judged_by_origin(
     alloc: Global,
-    changes: &[Change],
-    origins: &[&str],
-    answer: Result<&str, Cause>,
+    (changes, origins, answer): &ByOrigin,
 ) -> Result<bool, NoMemory> {
     let origins = texts_of(alloc, origins)?;
     let request = request_of(alloc, START, changes)?;
-    Ok(is_answered(&request, Some(&origins), answer))
+    Ok(is_answered(&request, Some(&origins), *answer))
 }
 
 #[test]
 fn origins_are_judged(rt: HostRuntime) -> Result<(), Fail> {
-    for (changes, origins, answer) in BY_ORIGIN.iter() {
-        let judged = is_judged_by_origin(rt.alloc(), changes, origins, *answer)?;
-        assert!(rt; judged, "{changes:?}");
-    }
-    Ok(())
+    are_right_in(&rt, rt.alloc(), &BY_ORIGIN, is_judged_by_origin)
 }
 
 // The reply of RFC 6455 1.3, without its subprotocol.

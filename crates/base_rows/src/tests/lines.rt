@@ -1,8 +1,9 @@
 // Where the front of a text ends, whole and byte by byte.
+use super::tables::are_right;
 use head_lines::{Search, first_line, line_count, strip_cr};
 
 // Texts, and where their first empty line ends.
-const TEXTS: [(&[u8], Option<usize>); 12] = [
+static TEXTS: [(&[u8], Option<usize>); 12] = [
     (b"", None),
     (b"\r", None),
     (b"\n", Some(1)),
@@ -29,27 +30,31 @@ fn is_found_by_bytes(text: &[u8], end: Option<usize>) -> bool {
     true
 }
 
+fn is_found((text, end): &(&[u8], Option<usize>)) -> bool {
+    Search::new().front_end(text) == *end && is_found_by_bytes(text, *end)
+}
+
 #[test]
 fn the_first_empty_line_is_found_however_the_text_grows(rt: HostRuntime) {
-    for (text, end) in TEXTS.iter() {
-        assert!(&rt; Search::new().front_end(text) == *end);
-        assert!(&rt; is_found_by_bytes(text, *end));
-    }
+    are_right(&rt, &TEXTS, is_found);
+}
+
+// Texts, their first line, and how many lines end in them.
+static TOLD: [(&[u8], &[u8], usize); 6] = [
+    (b"", b"", 0),
+    (b"a b", b"a b", 0),
+    (b"a b\r", b"a b", 0),
+    (b"a\r\nb\n", b"a", 2),
+    (b"a\r\r\n\n", b"a\r", 2),
+    (b"\nb\r\nc", b"", 2),
+];
+
+fn is_told((text, first, count): &(&[u8], &[u8], usize)) -> bool {
+    first_line(text) == *first && line_count(text) == *count
 }
 
 #[test]
 fn lines_are_told(rt: HostRuntime) {
-    let table: [(&[u8], &[u8], usize); 6] = [
-        (b"", b"", 0),
-        (b"a b", b"a b", 0),
-        (b"a b\r", b"a b", 0),
-        (b"a\r\nb\n", b"a", 2),
-        (b"a\r\r\n\n", b"a\r", 2),
-        (b"\nb\r\nc", b"", 2),
-    ];
-    for (text, first, count) in table.iter() {
-        assert!(&rt; first_line(text) == *first);
-        assert!(&rt; line_count(text) == *count);
-    }
-    assert!(&rt; strip_cr(b"\r\r") == b"\r".as_slice());
+    are_right(&rt, &TOLD, is_told);
+    assert!(rt; strip_cr(b"\r\r") == b"\r".as_slice());
 }

@@ -1,4 +1,5 @@
 // Frames of a client, and what a server makes of them (RFC 6455 5 to 7).
+use super::tables::are_right_in;
 use host_base::NoMemory;
 use std::alloc::Global;
 use std::test::Fail;
@@ -134,7 +135,9 @@ fn sends_hello(alloc: Global) -> Result<bool, NoMemory> {
 }
 
 // What a client sends, the words that it gives, and what is sent.
-const EXAMPLES: [(&[u8], &[u8], &[u8]); 3] = [
+type Heard = (&'static [u8], &'static [u8], &'static [u8]);
+
+static EXAMPLES: [Heard; 3] = [
     (
         b"\x81\x85\x37\xfa\x21\x3d\x7f\x9f\x4d\x51\x58",
         b"Hello|",
@@ -149,12 +152,14 @@ const EXAMPLES: [(&[u8], &[u8], &[u8]); 3] = [
     (b"\x81\x05Hello", b"!", b""),
 ];
 
+fn is_example(alloc: Global, (bytes, words, sent): &Heard) -> Result<bool, NoMemory> {
+    is_heard(alloc, bytes, words, sent)
+}
+
 // The examples of RFC 6455 5.7, as a client sends them and as a server does.
 #[test]
 fn examples_of_the_standard(rt: HostRuntime) -> Result<(), Fail> {
-    for (bytes, words, sent) in EXAMPLES.iter() {
-        assert!(rt; is_heard(rt.alloc(), bytes, words, sent)?, "{bytes:?}");
-    }
+    are_right_in(&rt, rt.alloc(), &EXAMPLES, is_example)?;
     assert!(rt; sends_hello(rt.alloc())?);
     Ok(())
 }
@@ -164,7 +169,9 @@ const LONG: [u8; 126] = [b'a'; 126];
 const MOST: [u8; 125] = [b'a'; 125];
 
 // Masked frames, the words that they give, and what is sent.
-const TAKEN: [(&[Frame], &[u8], &[u8]); 15] = [
+type Taken = (&'static [Frame<'static>], &'static [u8], &'static [u8]);
+
+static TAKEN: [Taken; 15] = [
     (
         &[(0x81, b"a"), (0x81, b""), (0x81, b"b\nc")],
         b"a||b\nc|",
@@ -235,13 +242,13 @@ fn are_heard(alloc: Global, list: &[Frame], words: &[u8], sent: &[u8]) -> Result
     is_heard(alloc, bytes.as_slice(), words, sent)
 }
 
+fn is_taken(alloc: Global, (list, words, sent): &Taken) -> Result<bool, NoMemory> {
+    are_heard(alloc, list, words, sent)
+}
+
 #[test]
 fn frames_are_taken(rt: HostRuntime) -> Result<(), Fail> {
-    for (list, words, sent) in TAKEN.iter() {
-        let heard = are_heard(rt.alloc(), list, words, sent)?;
-        assert!(rt; heard, "{list:?}");
-    }
-    Ok(())
+    are_right_in(&rt, rt.alloc(), &TAKEN, is_taken)
 }
 
 fn is_longest_ping_answered(alloc: Global) -> Result<bool, NoMemory> {
@@ -273,7 +280,9 @@ fn pings_are_answered(rt: HostRuntime) -> Result<(), Fail> {
 }
 
 // Masked frames that must be refused after what they give.
-const REFUSED: [(&[Frame], &[u8]); 25] = [
+type Refused = (&'static [Frame<'static>], &'static [u8]);
+
+static REFUSED: [Refused; 25] = [
     // Reserved bits (RFC 6455 5.2).
     (&[(0xc1, b"a")], b"!"),
     (&[(0xa1, b"a")], b"!"),
@@ -306,25 +315,32 @@ const REFUSED: [(&[Frame], &[u8]); 25] = [
     (&[(0x88, b"\x03")], b"!"),
 ];
 
-#[test]
-fn frames_are_refused(rt: HostRuntime) -> Result<(), Fail> {
-    for (list, words) in REFUSED.iter() {
-        let heard = are_heard(rt.alloc(), list, words, b"")?;
-        assert!(rt; heard, "{list:?}");
-    }
-    Ok(())
+fn is_refused(alloc: Global, (list, words): &Refused) -> Result<bool, NoMemory> {
+    are_heard(alloc, list, words, b"")
 }
 
-// A frame of 2 MiB and one byte, and one whose length has its first bit set.
+#[test]
+fn frames_are_refused(rt: HostRuntime) -> Result<(), Fail> {
+    are_right_in(&rt, rt.alloc(), &REFUSED, is_refused)
+}
+
+// The fronts of a frame of 2 MiB and one byte, and of one whose length has its first bit set.
+static LONG_FRONTS: [Heard; 2] = [
+    (
+        b"\x81\xff\x00\x00\x00\x00\x00\x20\x00\x01\x37\xfa\x21\x3d",
+        b"!",
+        b"",
+    ),
+    (
+        b"\x81\xff\x80\x00\x00\x00\x00\x00\x00\x00\x37\xfa\x21\x3d",
+        b"!",
+        b"",
+    ),
+];
+
 #[test]
 fn long_frames_are_refused(rt: HostRuntime) -> Result<(), Fail> {
-    for front in [
-        b"\x81\xff\x00\x00\x00\x00\x00\x20\x00\x01\x37\xfa\x21\x3d".as_slice(),
-        b"\x81\xff\x80\x00\x00\x00\x00\x00\x00\x00\x37\xfa\x21\x3d",
-    ] {
-        assert!(rt; is_heard(rt.alloc(), front, b"!", b"")?, "{front:?}");
-    }
-    Ok(())
+    are_right_in(&rt, rt.alloc(), &LONG_FRONTS, is_example)
 }
 
 fn word_count(alloc: Global, bytes: &[u8], size: usize) -> Result<usize, NoMemory> {
@@ -363,7 +379,7 @@ fn large_messages_are_bounded(rt: HostRuntime) -> Result<(), Fail> {
 }
 
 // Codes of a close, and how they are taken.
-const CODES: [(u16, Said); 9] = [
+static CODES: [(u16, Said); 9] = [
     (1_000, Said::Done),
     (1_003, Said::Done),
     (1_009, Said::Done),
@@ -396,16 +412,13 @@ fn takes(link: &mut Link, code: u16, said: Said) -> bool {
     texts && link.close(code) == said && (said != Said::Done || link.say("a") == Said::Refused)
 }
 
-fn is_closed_so(alloc: Global, code: u16, said: Said) -> Result<bool, NoMemory> {
-    let due = due_of(alloc, code, said)?;
+fn is_closed_so(alloc: Global, (code, said): &(u16, Said)) -> Result<bool, NoMemory> {
+    let due = due_of(alloc, *code, *said)?;
     let mut link = Link::new(alloc, b"")?;
-    Ok(takes(&mut link, code, said) && sends(&mut link, due.as_slice()))
+    Ok(takes(&mut link, *code, *said) && sends(&mut link, due.as_slice()))
 }
 
 #[test]
 fn texts_and_closes_are_sent(rt: HostRuntime) -> Result<(), Fail> {
-    for (code, said) in CODES {
-        assert!(rt; is_closed_so(rt.alloc(), code, said)?, "{code}");
-    }
-    Ok(())
+    are_right_in(&rt, rt.alloc(), &CODES, is_closed_so)
 }

@@ -1,5 +1,6 @@
 // What no clause says: the tables of causes and limits against the texts that they come from, edge cases of
 // the helpers, and that each call that takes memory can succeed.
+use super::tables::are_right;
 use host_base::*;
 use std::alloc::Global;
 use std::process::Abort;
@@ -8,7 +9,7 @@ use std::test::Fail;
 // A cause, its status code, its text, and the length of the reply's body, which ends with a line feed.
 type CauseRow = (Cause, u16, &'static str, usize);
 
-const REQUEST_CAUSES: [CauseRow; 19] = [
+static REQUEST_CAUSES: [CauseRow; 19] = [
     (Cause::BadHead, 400, "bad request head", 17),
     (Cause::Incomplete, 400, "request ended early", 20),
     (Cause::BadTarget, 400, "bad target", 11),
@@ -35,7 +36,7 @@ const REQUEST_CAUSES: [CauseRow; 19] = [
     (Cause::CodingUnknown, 501, "transfer coding not served", 27),
 ];
 
-const SCRIPT_CAUSES: [CauseRow; 14] = [
+static SCRIPT_CAUSES: [CauseRow; 14] = [
     (Cause::RedirectLoop, 500, "too many local redirects", 25),
     (Cause::StartFailed, 502, "script could not be started", 28),
     (Cause::OutputBroken, 502, "script output broken", 21),
@@ -63,24 +64,20 @@ const SCRIPT_CAUSES: [CauseRow; 14] = [
     (Cause::RunTime, 504, "script took too long", 21),
 ];
 
-fn has_row(rt: &impl Abort, (cause, status, text, length): CauseRow) {
-    assert_eq!(rt; cause.status(), status, "{cause:?}");
-    assert_eq!(rt; cause.text(), text, "{cause:?}");
-    assert_eq!(rt; cause.text().len().saturating_add(1), length, "{cause:?}");
+fn is_cause((cause, status, text, length): &CauseRow) -> bool {
+    cause.status() == *status
+        && cause.text() == *text
+        && cause.text().len().saturating_add(1) == *length
 }
 
 #[test]
 fn causes(rt: HostRuntime) {
-    for row in REQUEST_CAUSES {
-        has_row(&rt, row);
-    }
-    for row in SCRIPT_CAUSES {
-        has_row(&rt, row);
-    }
+    are_right(&rt, &REQUEST_CAUSES, is_cause);
+    are_right(&rt, &SCRIPT_CAUSES, is_cause);
 }
 
 // Two words, and whether they are the same.
-const WORDS: [(&str, &str, bool); 12] = [
+static WORDS: [(&str, &str, bool); 12] = [
     ("", "", true),
     ("Host", "hOST", true),
     ("host", "hosts", false),
@@ -95,19 +92,17 @@ const WORDS: [(&str, &str, bool); 12] = [
     ("\u{c4}", "\u{e4}", false),
 ];
 
+fn is_word((one, other, same): &(&str, &str, bool)) -> bool {
+    is_same_word(one.as_bytes(), other.as_bytes()) == *same
+}
+
 #[test]
 fn words_without_case(rt: HostRuntime) {
-    for (one, other, same) in WORDS {
-        assert_eq!(rt;
-            is_same_word(one.as_bytes(), other.as_bytes()),
-            same,
-            "{one} {other}"
-        );
-    }
+    are_right(&rt, &WORDS, is_word);
 }
 
 // Text, and what is left of it without blanks at its ends. A line end is no blank.
-const TRIMMED: [(&str, &str); 10] = [
+static TRIMMED: [(&str, &str); 10] = [
     ("", ""),
     (" ", ""),
     ("\t \t", ""),
@@ -120,15 +115,17 @@ const TRIMMED: [(&str, &str); 10] = [
     ("\u{a0}a", "\u{a0}a"),
 ];
 
+fn is_trimmed((text, rest): &(&str, &str)) -> bool {
+    trim(text.as_bytes()) == rest.as_bytes()
+}
+
 #[test]
 fn blanks(rt: HostRuntime) {
-    for (text, rest) in TRIMMED {
-        assert_eq!(rt; trim(text.as_bytes()), rest.as_bytes(), "{text}");
-    }
+    are_right(&rt, &TRIMMED, is_trimmed);
 }
 
 // A comma list, a word, and whether the list has it (RFC 9110 5.6.1).
-const LISTED: [(&str, &str, bool); 16] = [
+static LISTED: [(&str, &str, bool); 16] = [
     ("close", "CLOSE", true),
     ("keep-alive, Upgrade", "upgrade", true),
     ("keep-alive,Upgrade", "keep-alive", true),
@@ -147,19 +144,17 @@ const LISTED: [(&str, &str, bool); 16] = [
     ("a,b,c,d", "d", true),
 ];
 
+fn is_listed((list, word, has): &(&str, &str, bool)) -> bool {
+    has_comma_word(list.as_bytes(), word.as_bytes()) == *has
+}
+
 #[test]
 fn comma_lists(rt: HostRuntime) {
-    for (list, word, has) in LISTED {
-        assert_eq!(rt;
-            has_comma_word(list.as_bytes(), word.as_bytes()),
-            has,
-            "{list} {word}"
-        );
-    }
+    are_right(&rt, &LISTED, is_listed);
 }
 
 // A byte, its value as a decimal digit, and as a hex digit: each end of a range and its neighbour outside.
-const DIGITS: [(u8, Option<u8>, Option<u8>); 14] = [
+static DIGITS: [(u8, Option<u8>, Option<u8>); 14] = [
     (b'/', None, None),
     (b'0', Some(0), Some(0)),
     (b'9', Some(9), Some(9)),
@@ -176,12 +171,13 @@ const DIGITS: [(u8, Option<u8>, Option<u8>); 14] = [
     (255, None, None),
 ];
 
+fn is_digit((byte, decimal, hex): &(u8, Option<u8>, Option<u8>)) -> bool {
+    decimal_digit(*byte) == *decimal && hex_digit(*byte) == *hex
+}
+
 #[test]
 fn digits(rt: HostRuntime) {
-    for (byte, decimal, hex) in DIGITS {
-        assert_eq!(rt; decimal_digit(byte), decimal, "{byte}");
-        assert_eq!(rt; hex_digit(byte), hex, "{byte}");
-    }
+    are_right(&rt, &DIGITS, is_digit);
 }
 
 fn field(alloc: Global, name: &str, value: &str) -> Result<Field, NoMemory> {
@@ -198,7 +194,7 @@ fn fields(alloc: Global, lines: &[(&str, &str)]) -> Result<Fields, NoMemory> {
     Ok(fields)
 }
 
-const LINES: [(&str, &str); 6] = [
+static LINES: [(&str, &str); 6] = [
     ("Host", "a"),
     ("Connection", "keep-alive, , close"),
     ("host", "b"),
@@ -208,7 +204,7 @@ const LINES: [(&str, &str); 6] = [
 ];
 
 // A name, and how many of the lines have it.
-const COUNTED: [(&str, usize); 6] = [
+static COUNTED: [(&str, usize); 6] = [
     ("hOsT", 2),
     ("connection", 3),
     ("Upgrade", 1),
@@ -217,17 +213,22 @@ const COUNTED: [(&str, usize); 6] = [
     ("", 0),
 ];
 
+fn has_lines<R: Abort>(rt: &R, fields: &Fields, case: &(&str, usize)) {
+    let (name, count) = case;
+    assert!(rt; fields.count_named(name.as_bytes()) == *count, "{case:?}");
+}
+
 #[test]
 fn lines_of_a_name(rt: HostRuntime) -> Result<(), Fail> {
     let fields = fields(rt.alloc(), &LINES)?;
-    for (name, count) in COUNTED {
-        assert_eq!(rt; fields.count_named(name.as_bytes()), count, "{name}");
+    for case in &COUNTED {
+        has_lines(&rt, &fields, case);
     }
     Ok(())
 }
 
 // A name, a word, and whether the list of the field has it.
-const FIELD_WORDS: [(&str, &str, bool); 8] = [
+static FIELD_WORDS: [(&str, &str, bool); 8] = [
     ("connection", "KEEP-ALIVE", true),
     ("connection", "close", true),
     ("connection", "upgrade", true),
@@ -238,15 +239,19 @@ const FIELD_WORDS: [(&str, &str, bool); 8] = [
     ("te", "websocket", false),
 ];
 
+fn has_list_word<R: Abort>(rt: &R, fields: &Fields, case: &(&str, &str, bool)) {
+    let (name, word, has) = case;
+    assert!(rt;
+        fields.has_word(name.as_bytes(), word.as_bytes()) == *has,
+        "{case:?}"
+    );
+}
+
 #[test]
 fn words_of_a_field(rt: HostRuntime) -> Result<(), Fail> {
     let fields = fields(rt.alloc(), &LINES)?;
-    for (name, word, has) in FIELD_WORDS {
-        assert_eq!(rt;
-            fields.has_word(name.as_bytes(), word.as_bytes()),
-            has,
-            "{name} {word}"
-        );
+    for case in &FIELD_WORDS {
+        has_list_word(&rt, &fields, case);
     }
     Ok(())
 }
