@@ -12,15 +12,21 @@ export LC_ALL=C
 top=$(cd "$(dirname "$0")/../.." && pwd)
 command -v rt >/dev/null || { echo 'proof.sh: skipped, there is no rt'; exit 0; }
 kit=$(dirname "$(rt doc)")
-crate=${1:-}
-line=$(grep "^$crate\( [^:]*\)\{0,1\}:" "$top/crates.txt") || {
+usage() {
     sed -n 's/^# usage/usage/p' "$0"
     exit 2
 }
+crate=${1:-}
+line=$(grep "^$crate\( [^:]*\)\{0,1\}:" "$top/crates.txt") || usage
+options=()
+case ${2:-} in
+'') ;;
+--test) options+=(--test) ;;
+*) usage ;;
+esac
 folder=$(mktemp -d)
 trap 'rm -rf "$folder"' EXIT
 
-options=()
 for below in ${line#*:}; do
     own=$top/crates/$below/out/rlib/$below.rlib
     if [ -d "$top/crates/$below" ]; then
@@ -33,7 +39,6 @@ done
 for own in "$kit/rlibs" "$top"/crates/*/out/rlib; do
     options+=(-L "dependency=$own")
 done
-[ "${2:-}" != --test ] || options+=(--test)
 root=src/lib.rt
 [ -f "$top/crates/$crate/$root" ] || root=src/main.rt
 
