@@ -174,6 +174,16 @@ wait "$drains"
 if [ -e drained ]; then ok; else bad "drain: $(tail -n 1 wrong)"; fi
 ends 'drain beside another server' 0 10
 
+# ---- whoever starts the server may have the signal of ended children ignored: more programs than may run at a time end
+site 'children = 4'
+trap '' CHLD
+serve
+trap - CHLD
+for _ in $(seq 20); do curl -s -m 10 -o got -w '%{http_code}\n' "http://127.0.0.1:$port/hi"; done | sort | uniq -c >answers
+if [ "$(awk '{ print $1, $2 }' answers)" = '20 200' ]; then ok; else bad "with SIGCHLD ignored: $(tr '\n' ';' <answers)"; fi
+echo stop >&9
+ends 'stop with SIGCHLD ignored' 0 10
+
 site ''
 serve
 echo stop >&9

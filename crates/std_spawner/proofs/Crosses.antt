@@ -23,6 +23,7 @@ use Rattle.std_spawner.specs.contracts.input.Running as Running
 use Rattle.std_spawner.specs.contracts.input.Input as Input
 use Rattle.std_spawner.specs.contracts.kid.StdKid as StdKid
 use Rattle.std_spawner.specs.contracts.spawner.StdSpawner as StdSpawner
+use Rattle.std_spawner.specs.contracts.stray.Stray as Stray
 use Rattle.std_spawner.specs.contracts.threads.IdleThreads as IdleThreads
 use Rattle.std_spawner.specs.contracts.threads.ThreadPool as ThreadPool
 
@@ -58,8 +59,11 @@ running_send = search (sendable, crosses, in_pump_send, input_send, busy.the_fie
 kid_input_send : IsSend Input.the_field.row
 kid_input_send = search (sendable, crosses, held_send, running_send, worker.the_field_send, job_send) depth 20
 
+stray_send : IsSend Stray.the_field.row
+stray_send = search (sendable, crosses, out_pump_send, belled_send, in_pump_send, input_send, busy.the_field_send, job_send) depth 20
+
 idle_send : (T : RattleType) → IsSend T → IsSend (IdleThreads.the_field T).row
-idle_send T s = search (sendable, crosses, worker.the_field_send, job_send) depth 20
+idle_send T s = search (sendable, crosses, worker.the_field_send, job_send, stray_send) depth 20
 
 pool_send : (T : RattleType) → IsSend T → IsSend (ThreadPool.the_field T).row
 pool_send T s = search (sendable, crosses, idle_send) depth 20

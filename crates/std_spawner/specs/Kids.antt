@@ -24,7 +24,7 @@ kid_tells kid =
       reap_looks = kid.reap_looks;
     }
 
--- the system told how its program ended
+-- the system told how its program ended, or that there is no such child any more
 abbrev pub is_gone : {R T : Type 0} → StdKid R T → Bool
 is_gone kid = has_ended kid.program
 

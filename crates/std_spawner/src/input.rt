@@ -5,6 +5,7 @@ ghost use Rattle.pump_pool.specs.Pumps.{feed_of};
 
 use super::job::{Pump, PumpJob};
 use super::pipes::ChildInput;
+use super::stray::{Left, Stray};
 use super::threads::{StartThread, ThreadPool};
 use child_edge::SpawnFault;
 use loop_bell::Bell;
@@ -93,6 +94,23 @@ pub(crate) struct Running {
     ghost same: { SameFeedRing mark.value (feed_of pump) },
 }
 
+impl Running {
+    ghost use Rattle.std.specs.Prelude.{◌≡◌};
+    ghost use Rattle.std_spawner.specs.Inputs.{left_of};
+
+    // It still runs.
+    fn into_left(self) -> Left
+        ensures { result ≡ left_of (Input.Running self) }
+    {
+        let Running {
+            pump,
+            thread,
+            mark: _,
+        } = self;
+        Left::Runs(Stray::Input(pump, thread))
+    }
+}
+
 /// Where the pump is.
 #[derive(Drop)]
 pub(crate) enum Input {
@@ -104,7 +122,7 @@ pub(crate) enum Input {
 
 impl Input {
     ghost use Rattle.std.specs.Prelude.{◌≡◌, Some, None, IfOk, IfSome};
-    ghost use Rattle.std_spawner.specs.Inputs.{feed_mark, waiting, IsInputEnd, IsInputEndOf};
+    ghost use Rattle.std_spawner.specs.Inputs.{feed_mark, left_of, IsInputEnd, IsInputEndOf};
     ghost use Rattle.pipe_pump.specs.declared.feed_ring.FeedRing.{FeedRing};
 
     /// What the pump left, once it has ended, and only once. It doesn't wait. Where there is something to move and no
@@ -191,13 +209,15 @@ impl Input {
         }
     }
 
-    /// Its thread, where that waits.
-    pub fn into_worker(self) -> Option<Worker<PumpJob>>
-        ensures { result ≡ waiting self }
+    /// What is left of its thread.
+    pub fn into_left(self) -> Left
+        ensures { result ≡ left_of self }
     {
         match self {
-            Input::Held(_) | Input::Running(_) => None,
-            Input::Ended(thread) => thread,
+            Input::Held(_held) => Left::Nothing,
+            Input::Ended(None) => Left::Nothing,
+            Input::Ended(Some(thread)) => Left::Waits(thread),
+            Input::Running(running) => running.into_left(),
         }
     }
 }

@@ -1,5 +1,5 @@
 // A real child.
-ghost use Rattle.std.specs.Prelude.{◌≡◌, true, Some};
+ghost use Rattle.std.specs.Prelude.{◌≡◌, true, Some, MatchOption};
 ghost use Rattle.host_base.specs.Outsides.{Rose};
 ghost use Rattle.child_edge.specs.Kids.{is_failed};
 ghost use Rattle.std_spawner.specs.Inputs.{feed_mark};
@@ -10,6 +10,7 @@ use super::job::PumpJob;
 use super::pace::Pace;
 use super::pipes::{ChildInput, ChildOutput};
 use super::program::Program;
+use super::stray::{Left, Stray};
 use super::threads::{StartThread, ThreadPool};
 use child_edge::{Kid, Reap, SpawnFault};
 use pipe_pump::{FeedRing, PumpDone, PumpEnd};
@@ -41,7 +42,7 @@ pub struct StdKid<R, T> {
     out_looks: u64,
     in_looks: u64,
     reap_looks: u64,
-    /// Of a program that was reaped the system told how it ended.
+    /// Of a program that was reaped the system told how it ended, or that there is no such child any more.
     ghost told: { reaped ≡ true → has_ended program ≡ true },
     ghost fed: { (f : _) → feed_mark input ≡ Some f → f ≡ feed.value },
 }
@@ -225,7 +226,7 @@ impl<R: Wait + Clock + Drop, T: StartThread + Drop> StdKid<R, T> {
         self.reaped
     }
 
-    /// Gives its threads that wait back to their pool. Another ends with its pump.
+    /// Gives its threads back to their pool: those that wait, and those that still run its pumps.
     pub(crate) fn give_back(self) {
         let mut kid = self;
         kid.out_done();
@@ -234,8 +235,8 @@ impl<R: Wait + Clock + Drop, T: StartThread + Drop> StdKid<R, T> {
             rt,
             threads,
             program: _,
-            output: _,
-            output_thread: _,
+            output,
+            output_thread,
             feed: _,
             input,
             out_end: _,
@@ -248,7 +249,18 @@ impl<R: Wait + Clock + Drop, T: StartThread + Drop> StdKid<R, T> {
             in_looks: _,
             reap_looks: _,
         } = kid;
-        give_one(&rt, &threads, input.into_worker());
+        threads.take_back(&rt, output_left(output, output_thread));
+        threads.take_back(&rt, input.into_left());
+    }
+}
+
+// What is left of the thread of an output's pump, which has it until the pump has ended.
+fn output_left(output: OutPump<ChildOutput>, thread: Option<Busy<PumpJob>>) -> Left
+    ensures { MatchOption thread (result ≡ Left.Nothing) (λ busy. result ≡ Left.Runs (Stray.Output output busy)) }
+{
+    match thread {
+        Some(thread) => Left::Runs(Stray::Output(output, thread)),
+        None => Left::Nothing,
     }
 }
 

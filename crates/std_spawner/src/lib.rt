@@ -9,6 +9,7 @@ mod pace;
 mod pipes;
 mod program;
 mod spawner;
+mod stray;
 mod threads;
 
 pub use job::PumpJob;

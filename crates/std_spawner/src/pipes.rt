@@ -6,11 +6,12 @@ use pipe_pump::{PipeIn, PipeOut, PipeRead, PipeWrite};
 use std::io::{Read, Stdin, Write};
 use std::process::{ChildStdin, ChildStdout};
 
-/// A pipe that bytes come from. It rings before it waits for more, where it gave bytes since it last rang.
+/// A pipe that bytes come from. It rings before it waits for more, where it gave bytes that it has not rung for yet.
 #[derive(Drop)]
 pub struct BelledPipe<P> {
     pipe: P,
     bell: Bell,
+    /// Bytes were given that it is still to ring for.
     gave: bool,
     faults: u64,
 }
@@ -32,6 +33,18 @@ impl<P> BelledPipe<P> {
             faults: 0,
         }
     }
+
+    // Rings where bytes were given, or where they wait in a full ring. In the second case their rest comes into the
+    // ring after this, so it is still to ring for that.
+    fn ring(&mut self, waits: bool)
+        ensures gave { self.new.gave ≡ waits }
+        ensures faults { self.new.faults ≡ self.old.faults }
+    {
+        if self.gave || waits {
+            self.bell.ring();
+        }
+        self.gave = waits;
+    }
 }
 
 impl<P: Read> PipeIn for BelledPipe<P> {
@@ -42,10 +55,7 @@ impl<P: Read> PipeIn for BelledPipe<P> {
     ghost faults = { λ pipe. pipe.faults };
 
     fn read(&mut self, into: &mut [u8]) -> PipeRead {
-        if self.gave || into.is_empty() {
-            self.gave = false;
-            self.bell.ring();
-        }
+        self.ring(into.is_empty());
         if into.is_empty() {
             return PipeRead::Bytes(0);
         }

@@ -35,7 +35,9 @@ struct Pumps {
 }
 
 /// Starts programs of the system. The pumps of a child run in threads of its own, that of its input once there is
-/// something to move; idle threads are used again, and a bounded number of them is kept.
+/// something to move; idle threads are used again, and a bounded number of them is kept. A pump that still runs when its
+/// child is taken back, since a program which that left behind holds its pipe, keeps its thread until it ends. While 128
+/// of these are left a start is Failed.
 #[derive(Drop)]
 pub struct StdSpawner<R, T> {
     rt: R,
@@ -107,10 +109,14 @@ impl<R: Wait + Drop, T: StartThread + Drop> StdSpawner<R, T> {
         }
     }
 
-    // All that the pumps of a child need, so that the output of a child which was started always has its pump.
+    // All that the pumps of a child need, so that the output of a child which was started always has its pump. There is
+    // none while too many pumps of children that are gone still run.
     fn pumps(&mut self) -> Result<Pumps, SpawnFault>
         ensures { self.new ≡ record self.old { client = self.new.client } }
     {
+        if !self.threads.may_start(&self.rt) {
+            return Err(SpawnFault::Failed);
+        }
         let thread = self.thread()?;
         match self.pumps_of(thread) {
             Ok(pumps) => Ok(pumps),
