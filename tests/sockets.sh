@@ -8,6 +8,7 @@ loops=${LOOPS:-}
 
 script lines 'printf "one\r\n\ntwo words\nlast"'
 script endless 'exec head -c 70000 /dev/zero'
+script empty 'exec yes ""'
 script pid 'echo $$
 exec cat'
 script many '#!/usr/bin/env python3
@@ -20,7 +21,7 @@ site() {
     {
         printf 'version = 1\nname = "a.example"\nport = %s\n' "$port"
         printf '\n[[script]]\npath = "/cat"\nprogram = "/bin/cat"\nkind = "websocket"\n'
-        for name in lines endless pid many; do
+        for name in lines endless empty pid many; do
             printf '\n[[script]]\npath = "/%s"\nprogram = "%s/%s"\nkind = "websocket"\n' "$name" "$folder" "$name"
         done
         printf '\n[[script]]\npath = "/picky"\nprogram = "/bin/cat"\nkind = "websocket"\norigins = ["http://a.example"]\n'
@@ -29,11 +30,6 @@ site() {
 
 site
 start $loops
-if ! python3 "$client" is_built "$port" 2>wrong; then
-    echo "skipped: no WebSocket is served yet: $(tail -n 1 wrong)"
-    end_server
-    exit 0
-fi
 plays sample
 plays at_once
 plays refused
@@ -46,6 +42,10 @@ plays unread 262144
 plays full_speed 20000 100
 plays full_speed 2000 16000
 plays late_reader
+before=$(memory)
+plays empty_lines
+after=$(memory)
+if [ "$after" -lt $((before + 16384)) ]; then ok; else bad "empty lines: $before kB before, $after behind"; fi
 plays rounds 50 100
 sleep 1
 if [ "$(children)" = 0 ]; then ok; else bad "$(children) programs are left"; fi

@@ -93,11 +93,6 @@ def handshake(path, key, more=""):
     ).encode()
 
 
-def is_built(port):
-    """Whether a handshake is taken at all."""
-    Talk(port, "/cat")
-
-
 def sample(port):
     """The handshake of section 1.3 and the masked frame of section 5.7, to a program that gives its input back."""
     it = Talk(port, "/cat")
@@ -222,6 +217,18 @@ def late_reader(port):
     for at in range(8192):
         it.hears(b"%07d" % at + b"y" * 1016)
     it.closes(1000)
+
+
+def empty_lines(port):
+    """A program that writes empty lines for ever: who reads them gets them, and who reads none is cut off."""
+    it = Talk(port, "/empty")
+    for _ in range(20_000):
+        it.hears(b"")
+    it.reset()
+    it = Talk(port, "/empty")
+    time.sleep(1)
+    count = len(it.to_end())
+    check(count < 32 << 20, f"{count} bytes had waited")
 
 
 def rounds(port, sockets, count):

@@ -202,12 +202,17 @@ impl<S: Spawner + Drop> ChildSet<S> {
         ensures counts { self.new.counts ≡ counts_after result self.old.counts }
         ensures faults { S.faults self.old.spawner ≤ S.faults self.new.spawner }
         ensures failed { result ≡ Err SpawnFault.Failed → Rose (S.faults self.old.spawner) (S.faults self.new.spawner) }
+
+        // A kid that is kept no more was given back, and the new one is kept.
+        ensures kids { OnErr result ((S.taken self.new.spawner + vec_len self.new.rows) % 2 ^ 64 ≡ (S.taken self.old.spawner + vec_len self.old.rows) % 2 ^ 64) }
+        ensures kid { OnOk result ((S.taken self.new.spawner + vec_len self.new.rows) % 2 ^ 64 ≡ (S.taken self.old.spawner + vec_len self.old.rows + 1) % 2 ^ 64) }
     {
         let started = self.try_start(k, c, launch);
         self.counts = self.counts.after(&started);
         started
     }
 
+    #[tactic(auto, using(crate::proofs::Kept::one_started))]
     fn try_start(&mut self, k: u64, c: u64, launch: &Launch) -> Result<(), SpawnFault>
         requires sound { AllSound S.Kid.tells self.old.rows.items }
         ensures ok { OnOk result (StartsRow S.Kid.tells k c launch.now (kept self.old.rows.items) self.new.rows.items) }
@@ -217,6 +222,8 @@ impl<S: Spawner + Drop> ChildSet<S> {
         ensures counts { self.new.counts ≡ self.old.counts }
         ensures faults { S.faults self.old.spawner ≤ S.faults self.new.spawner }
         ensures failed { result ≡ Err SpawnFault.Failed → Rose (S.faults self.old.spawner) (S.faults self.new.spawner) }
+        ensures kids { OnErr result ((S.taken self.new.spawner + vec_len self.new.rows) % 2 ^ 64 ≡ (S.taken self.old.spawner + vec_len self.old.rows) % 2 ^ 64) }
+        ensures kid { OnOk result ((S.taken self.new.spawner + vec_len self.new.rows) % 2 ^ 64 ≡ (S.taken self.old.spawner + vec_len self.old.rows + 1) % 2 ^ 64) }
     {
         self.drop_settled();
         if self.rows.reserve(1).is_err() {
@@ -237,6 +244,7 @@ impl<S: Spawner + Drop> ChildSet<S> {
         ensures row { IfOk result (IsNewRow S.Kid.tells k c launch.now) }
         ensures faults { S.faults self.old.spawner ≤ S.faults self.new.spawner }
         ensures failed { result ≡ Err SpawnFault.Failed → Rose (S.faults self.old.spawner) (S.faults self.new.spawner) }
+        ensures taken { S.taken self.new.spawner ≡ S.taken self.old.spawner }
     {
         let Ok((ring, tap)) = rings(self.alloc, RING) else {
             return Err(SpawnFault::NoMemory);

@@ -1,7 +1,6 @@
 -- What an event and an act are the cause of: full books, open connections, and counts that rise.
-use Rattle.std.proofs.Common.{◌≡◌, inl, inr, ℕ, ◌≤◌, ◌+◌, ◌-◌, ◌^◌, min, true, List, [], ◌∷◌, Option, Some, None, refl, sym, subst, arith}
-use Rattle.host_base.specs.Outsides.{Rose}
-use Rattle.host_trace.specs.Told.{is_failure, is_full_book}
+use Rattle.std.proofs.Common.{◌≡◌, inl, inr, ℕ, true, List, [], ◌∷◌, Option, Some, None, refl, sym, subst, arith}
+use Rattle.host_trace.specs.Told.{is_full_book}
 use Rattle.host_trace.specs.declared.items.Event.{Event}
 use Rattle.host_trace.specs.declared.items.Event.TheVariants.{Accepted, ClientBytes, ClientEof, ClientGone, Wrote, Started, StartFailed, StartFull, ChildBytes, ChildEof, ChildBroken, Took, InputGone, Exited, WsText, WsBinary, WsClosed, WsBad, NoRoom, Tick, Stop}
 use Rattle.host_trace.specs.declared.items.Act.{Act}
@@ -11,10 +10,10 @@ use Rattle.host_trace.specs.declared.outside.Acted.TheVariants.{Done, NoRoom as 
 use Rattle.child_edge.specs.Kids.{KidTells}
 use Rattle.child_edge.specs.declared.row.Row.{Row}
 use Rattle.child_edge.specs.Rows.{OneSays, IsDue as IsDueRow}
-use Rattle.socket_set.specs.Sets.{SetState, Tells, Acts as SetActs}
+use Rattle.socket_set.specs.Sets.{SetState, Acts as SetActs}
 use Rattle.socket_set.specs.Sets.{Counted as CountedBySet}
 use Rattle.socket_set.proofs.Sets.{counted_self as set_counts, counted_same as set_counts_same}
-use Rattle.edge_loop.specs.Loops.{LoopState, Counts, Counted, ToldNoRoom, TellsOpen, TakesOrder, after_order, faults_of}
+use Rattle.edge_loop.specs.Loops.{LoopState, Counts, ToldNoRoom, TellsOpen, TakesOrder, after_order}
 use Rattle.edge_loop.specs.declared.orders.Order.{Order}
 use Rattle.edge_loop.specs.declared.orders.Order.TheVariants.{Stop as StopNow, Drain}
 use Rattle.edge_loop.proofs.Quiet.{counts_self}
@@ -50,30 +49,6 @@ module _ {K : Type 0} where
   full_child tells e (r ∷ rows) [] h f = h
   full_child tells e (r ∷ rows) (s ∷ now) (inl h) f = full_row tells e r s h.0.due f
   full_child tells e (r ∷ rows) (s ∷ now) (inr h) f = full_child tells e rows now h.1 f
-
--- .. and so is none of a client
-pub full_client : (e : Event) (a b : SetState) → Tells e a b → is_full_book e ≡ true → ⊥
-full_client (Accepted p) a b h f = cc
-full_client (ClientBytes c x) a b h f = cc
-full_client (ClientEof c) a b h f = cc
-full_client (ClientGone c) a b h f = cc
-full_client (Wrote c n) a b h f = cc
-full_client (Started k) a b h f = cc
-full_client (StartFailed k) a b h f = cc
-full_client (StartFull k n) a b h f = h.1.says.due
-full_client (ChildBytes k x) a b h f = cc
-full_client (ChildEof k) a b h f = cc
-full_client (ChildBroken k) a b h f = cc
-full_client (Took k n) a b h f = cc
-full_client (InputGone k) a b h f = cc
-full_client (Exited k) a b h f = cc
-full_client (WsText c x) a b h f = cc
-full_client (WsBinary c) a b h f = cc
-full_client (WsClosed c) a b h f = cc
-full_client (WsBad c) a b h f = cc
-full_client (NoRoom c) a b h f = cc
-full_client (Tick n) a b h f = cc
-full_client Stop a b h f = cc
 
 -- an event but NoRoom is told of no connection that has to be open
 pub open_other : (e : Event) (set : SetState) → ((c : ℕ) → e ≡ NoRoom c → ⊥) → TellsOpen e set
@@ -119,30 +94,7 @@ set_counted (WantChild k) acted a b h = same_counts a b h.1
 set_counted (Kill k) acted a b h = same_counts a b h.1
 set_counted (Release k) acted a b h = same_counts a b h.1
 
--- a count of two rises with one of them
-pub rose_one : (a b d e : ℕ) → Rose a d → b ≤ e → Rose (min (a + b) (2 ^ 64 - 1)) (min (d + e) (2 ^ 64 - 1))
-rose_one a b d e p q = omega (arith, p, q)
-
-pub rose_other : (a b d e : ℕ) → a ≤ d → Rose b e → Rose (min (a + b) (2 ^ 64 - 1)) (min (d + e) (2 ^ 64 - 1))
-rose_other a b d e p q = omega (arith, p, q)
-
-pub grown_both : (a b d e : ℕ) → a ≤ d → b ≤ e → min (a + b) (2 ^ 64 - 1) ≤ min (d + e) (2 ^ 64 - 1)
-grown_both a b d e p q = omega (arith, p, q)
-
 module _ {K : Type 0} where
-  pub faults_grown : (a b : LoopState K) → Counts a b → faults_of a ≤ faults_of b
-  faults_grown a b g = grown_both a.set.faults a.child_faults b.set.faults b.child_faults g.set.grown g.children
-
-  pub faults_rose : (e : Event) (a b : LoopState K) → Counted e a b → is_failure e ≡ true → Rose (faults_of a) (faults_of b)
-  faults_rose e a b g f =
-      elim (g.failure f) [
-        | inl w ↦ rose_one a.set.faults a.child_faults b.set.faults b.child_faults w g.counts.children
-        | inr w ↦ rose_other a.set.faults a.child_faults b.set.faults b.child_faults g.counts.set.grown w
-      ]
-
-  pub full_rose : (e : Event) (a b : LoopState K) → Counted e a b → is_full_book e ≡ true → Rose a.full b.full
-  full_rose e a b g f = g.full_book f
-
   order_same : (o : Option Order) (a : LoopState K) → Counts a (after_order o a)
   order_same None a = counts_self a
   order_same (Some StopNow) a = record { limit = refl; set = set_counts a.set; children = omega arith; full = omega arith }

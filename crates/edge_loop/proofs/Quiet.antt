@@ -9,7 +9,7 @@ use Rattle.child_edge.specs.Rows.{OneSays, Each, Rests, IsQuiet as IsQuietRow, k
 use Rattle.child_edge.proofs.Steps.{stays_two, marks_two, says_two as row_says_two}
 use Rattle.child_edge.proofs.Lists.{each_stays}
 use Rattle.socket_set.proofs.Sets.{quiet_self as set_self, quiet_two as set_two, tells_two as set_tells, counted_self as set_counts, counted_two as set_counts_two}
-use Rattle.edge_loop.specs.Loops.{LoopState, ChildrenRest, SameDue, IsQuiet, Counts, Counted, OfClient, OfChild, OfOrder, IsHeard, ending_after}
+use Rattle.edge_loop.specs.Loops.{LoopState, ChildrenRest, SameDue, IsQuiet, Counts, Counted, OfClient, OfChild, IsHeard, ending_after}
 use Rattle.edge_loop.specs.Orders.{stopped_by}
 
 -- a list whose items all pass
@@ -191,6 +191,3 @@ module _ {K : Type 0} where
 
   pub child_heard : (tells : K → KidTells) (e : Event) (a b : LoopState K) → OfChild tells e a b → IsHeard tells e a b
   child_heard tells e a b h = inr (inl h)
-
-  pub order_heard : (tells : K → KidTells) (e : Event) (a b : LoopState K) → OfOrder tells e a b → IsHeard tells e a b
-  order_heard tells e a b h = inr (inr h)

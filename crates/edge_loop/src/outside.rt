@@ -29,6 +29,10 @@ const MOST: u64 = 100;
 // always has more to tell.
 const IN_ROW: u32 = 16;
 
+// Where no child had anything to tell, so many events of clients are heard before the children are asked again: that goes
+// over all of them.
+const CALM: u32 = 16;
+
 /// The clients and the children of one loop, and the orders that end it. It can't be dropped: `end` ends its children
 /// and gives its part of the ledger back.
 pub struct NetOutside<P: Ports, S: Spawner, O: Orders, L: Ledger, R> {
@@ -45,6 +49,8 @@ pub struct NetOutside<P: Ports, S: Spawner, O: Orders, L: Ledger, R> {
     pause: u64,
     // How many events of children came in a row.
     in_row: u32,
+    // For so many more events the clients are asked before the children.
+    calm: u32,
     limit: u32,
 }
 
@@ -84,7 +90,7 @@ impl<
     ghost use Rattle.host_trace.specs.Told.{is_failure, is_full_book, carries_nothing};
     ghost use Rattle.child_edge.specs.Rows.{OneSays, Each, IsQuiet as IsQuietRow, kept, is_kept};
     ghost use Rattle.booked_children.specs.Booked.{Begins, ChildrenDo};
-    ghost use Rattle.socket_set.specs.Sets.{IsQuiet as IsQuietSet, Tells, Acts as SetActs, told_by};
+    ghost use Rattle.socket_set.specs.Sets.{IsQuiet as IsQuietSet, Tells, Acts as SetActs, Counted as SetCounted, told_by};
     ghost use Rattle.socket_set.specs.Clients.{has_failed};
     ghost use Rattle.edge_loop.specs.Orders.{stopped_by};
     ghost use Rattle.edge_loop.specs.Loops.{faults_of, IsNew, IsQuiet, Counts, Counted, IsDue, HasNoneDue, IsHeard, IsOwed, OwedAfterOrder, TakesOrder, ending_after, OfClient, OfChild, OfStart, OfOrder, IsBegun, TellsOpen, ToldNoRoom, IsStill, IsStopDue, Asks, Acts, Starts, OnChildren, OnClients, IsHalted, IsSent};
@@ -114,6 +120,7 @@ impl<
             soon: 0,
             pause: MOST,
             in_row: 0,
+            calm: 0,
             limit,
         }
     }
@@ -195,6 +202,7 @@ impl<
         ensures quiet { IsQuiet S.Kid.tells self.old self.new }
         ensures counts { Counts self.old self.new }
     {
+        self.calm = 0;
         if self.is_soon() {
             yield_now();
             return;
@@ -300,11 +308,22 @@ impl<
         ensures some { IfSome result (λ event. IsHeard S.Kid.tells event self.old self.new × Counted event self.old self.new) }
         ensures none { IsNone result → IsQuiet S.Kid.tells self.old self.new × Counts self.old self.new }
     {
-        if self.in_row < IN_ROW {
+        if self.asks_children_first() {
             self.hear_child_first()
         } else {
             self.hear_client_first()
         }
+    }
+
+    // Whether the children come first. If they do, the clients do next, unless a child has something to tell.
+    fn asks_children_first(&mut self) -> bool
+        ensures { self.new ≡ self.old }
+    {
+        if self.in_row >= IN_ROW || self.calm > 0 {
+            return false;
+        }
+        self.calm = CALM;
+        true
     }
 
     fn hear_child_first(&mut self) -> Option<Event>
@@ -369,6 +388,7 @@ impl<
         ensures none { IsNone result → IsQuiet S.Kid.tells self.old self.new × Counts self.old self.new }
     {
         let event = self.children.poll()?;
+        self.calm = 0;
         self.pause = pause_after(&event, self.pause);
         self.soon = soon_after(&event, self.soon);
         self.in_row = self.in_row.saturating_add(1);
@@ -380,14 +400,27 @@ impl<
         ensures none { IsNone result → IsQuiet S.Kid.tells self.old self.new × Counts self.old self.new }
     {
         self.in_row = 0;
+        self.calm = self.calm.saturating_sub(1);
+        let event = self.ask_clients()?;
+        self.note(&event);
+        Some(event)
+    }
+
+    // Where all are asked again soon in any case, whether nothing more is there needn't be known.
+    fn ask_clients(&mut self) -> Option<Event>
+        ensures some { IfSome result (λ event. OnClients (Tells event) self.old self.new) }
+        ensures none { IsNone result → OnClients IsQuietSet self.old self.new }
+        ensures counted { OnClients SetCounted self.old self.new }
+        ensures failure { has_failed result ≡ true → Rose self.old.set.faults self.new.set.faults }
+    {
+        if self.soon > 0 {
+            return self.sockets.glance();
+        }
         match self.sockets.poll() {
-            Polled::Told(event) => {
-                self.note(&event);
-                Some(event)
-            }
+            Polled::Told(event) => Some(event),
             Polled::Nothing => None,
             Polled::Again => {
-                self.soon = self.soon.max(1);
+                self.soon = 1;
                 None
             }
         }
@@ -438,6 +471,7 @@ impl<
     {
         self.pause = pause_for(act, self.pause);
         self.soon = soon_for(act, self.soon);
+        self.calm = 0;
         self.children.act(act)
     }
 
@@ -447,7 +481,20 @@ impl<
         ensures room { carries_nothing act.now ≡ true → result ≡ Acted.Done }
         ensures counts { Counts self.old self.new }
     {
-        self.sockets.act(act)
+        let acted = self.sockets.act(act);
+        self.mind_waiting(act);
+        acted
+    }
+
+    // A client to whom much waits is asked before its child has more for it.
+    fn mind_waiting(&mut self, act: &Act)
+        ensures { self.new ≡ self.old }
+    {
+        if let Act::Says { c, .. } = act {
+            if self.sockets.is_behind(*c) {
+                self.in_row = IN_ROW;
+            }
+        }
     }
 
     /// Ends every child and spends all tickets, and accepts no further client. Where anything is unsent every client is
@@ -491,6 +538,7 @@ impl<
             soon: _,
             pause: _,
             in_row: _,
+            calm: _,
             limit: _,
         } = self;
         children.end()

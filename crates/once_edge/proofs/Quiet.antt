@@ -245,22 +245,6 @@ module _ {K : Type 0} where
   pub counted_client : (R : ClientState → ClientState → Type 0) (e : Event) (a b d : OnceState K) → OnClient R a b → Counted e b d → Counted e a d
   counted_client R e a b d h g = counted_later e a b d (client_counts R a b h) g
 
-  -- the client rested, and nothing else was changed but what is counted
-  pub sent_quiet : (tells : K → KidTells) (a b : OnceState K) → ClientRests a.client b.client
-      → b ≡ record a { client = b.client; faults = b.faults; cut = b.cut } → IsQuiet tells a b
-  sent_quiet tells a b h same =
-      record {
-        client = h;
-        rows = inl (ap (λ s. s.rows) same);
-        due = due_same a b (ap (λ s. s.peer) same) (ap (λ s. s.starts) same) (ap (λ s. s.unstarted) same) (ap (λ s. s.tried) same) (ap (λ s. s.stopped) same);
-      }
-
-  pub heard_client : (tells : K → KidTells) (e : Event) (a b : OnceState K) → OfClient tells e a b → IsHeard tells e a b
-  heard_client tells e a b h = inl h
-
-  pub heard_child : (tells : K → KidTells) (e : Event) (a b : OnceState K) → OfChild tells e a b → IsHeard tells e a b
-  heard_child tells e a b h = inr (inl h)
-
   -- what waited could not be sent
   pub left_quiet : (tells : K → KidTells) (a b d : OnceState K) → OnClient ClientRests a b → d ≡ record b { faults = d.faults; cut = true } → IsQuiet tells a d
   left_quiet tells a b d h same =
@@ -323,6 +307,12 @@ module _ {K : Type 0} where
       → IfSome r (λ e. IsHeard tells e b d × Counted e b d) → IfSome r (λ e. IsHeard tells e a d × Counted e a d)
   later tells None a b d g h = tt
   later tells (Some e) a b d g h = (heard_later tells e a b d g.0 h.0, counted_later e a b d g.1 h.1)
+
+  -- .. of a child
+  pub child_later_some : (tells : K → KidTells) (r : Option Event) (a b d : OnceState K) → IsQuiet tells a b × Counts a b
+      → IfSome r (λ e. OfChild tells e b d × Counted e b d) → IfSome r (λ e. IsHeard tells e a d × Counted e a d)
+  child_later_some tells None a b d g h = tt
+  child_later_some tells (Some e) a b d g h = (heard_later tells e a b d g.0 (inr (inl h.0)), counted_later e a b d g.1 h.1)
 
   pub later_none : (tells : K → KidTells) (a b d : OnceState K) → IsQuiet tells a b × Counts a b → IsQuiet tells b d × Counts b d → IsQuiet tells a d × Counts a d
   later_none tells a b d g h = (quiet_two tells a b d g.0 h.0, counts_two a b d g.1 h.1)

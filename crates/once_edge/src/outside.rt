@@ -252,8 +252,30 @@ impl<
         }
     }
 
-    // What a child has to tell, or else the client, or else that all is over.
+    // What a child has to tell, or else the client, or else that all is over; the children last where much waits for the
+    // client.
     fn hear(&mut self) -> Option<Event>
+        ensures some { IfSome result (λ event. IsHeard S.Kid.tells event self.old self.new × Counted event self.old self.new) }
+        ensures none { IsNone result → IsQuiet S.Kid.tells self.old self.new × Counts self.old self.new }
+    {
+        if self.client.is_behind() {
+            self.hear_child_last()
+        } else {
+            self.hear_child_first()
+        }
+    }
+
+    fn hear_child_last(&mut self) -> Option<Event>
+        ensures some { IfSome result (λ event. IsHeard S.Kid.tells event self.old self.new × Counted event self.old self.new) }
+        ensures none { IsNone result → IsQuiet S.Kid.tells self.old self.new × Counts self.old self.new }
+    {
+        match self.hear_rest() {
+            Some(event) => Some(event),
+            None => self.hear_child(),
+        }
+    }
+
+    fn hear_child_first(&mut self) -> Option<Event>
         ensures some { IfSome result (λ event. IsHeard S.Kid.tells event self.old self.new × Counted event self.old self.new) }
         ensures none { IsNone result → IsQuiet S.Kid.tells self.old self.new × Counts self.old self.new }
     {

@@ -1,18 +1,22 @@
 -- Steps of the set one after another.
-use Rattle.std.proofs.Common.{◌≡◌, ◌≢◌, ◌∙◌, ◌⊎◌, ◌+◌, ◌^◌, ◌-◌, ◌<◌, ◌≤◌, min, length, inl, inr, ℕ, List, [], ◌++◌, Option, Some, None, refl, sym, ap, subst, append_assoc, append-nil, Bool, true, false, arith}
-use Rattle.std.specs.Io.KnownBytes.{Appends, Consumes, append_known}
+use Rattle.std.proofs.Common.{◌≡◌, ◌≢◌, ◌∙◌, ◌+◌, ◌≤◌, min, length, inl, inr, ℕ, List, [], ◌++◌, Option, Some, None, refl, sym, ap, subst, append-nil, Bool, true, false, arith}
+use Rattle.std.specs.Io.KnownBytes.{append_known}
 use Rattle.std.proofs.KnownBytes.{Consumes-nil, Consumes-trans, Appends-trans}
 use Rattle.host_base.specs.Outsides.{Rose}
 use Rattle.host_base.specs.declared.launch.Peer.{Peer}
 use Rattle.host_trace.specs.declared.items.Event.{Event}
 use Rattle.host_trace.specs.declared.items.Event.TheVariants.{Accepted, ClientBytes, ClientEof, ClientGone, Wrote, Started, StartFailed, StartFull, ChildBytes, ChildEof, ChildBroken, Took, InputGone, Exited, WsText, WsBinary, WsClosed, WsBad, NoRoom, Tick, Stop}
-use Rattle.socket_set.specs.Clients.{ClientState, Moved, Rests, Says, Keeps, Notes, noted, IsNewClient, IsDue, wanted_after}
-use Rattle.socket_set.specs.Sockets.{SocketTells}
+use Rattle.socket_set.specs.Clients.{ClientState, IsStillOrShut, Moved, Rests, Says, Keeps, Notes, noted, IsNewClient, IsDue, wanted_after}
+use Rattle.std.specs.List.{All}
+use Rattle.socket_set.specs.Sockets.{SocketTells, Moves}
 use Rattle.std.proofs.lemmas.Bool.{cases_eq}
 use Rattle.std.specs.Option.{IsSome, IfSome}
-use Rattle.socket_set.specs.Sets.{SetState, clients, is_shut_at, OnClient, OnOne, On, Inserts, Leaves, SameDevices, SameClients, client_of, Goes, AllRest, OthersRest, OneSays, Arrives, SameCounts, Tells, IsQuiet, IsIdle, Counted}
+use Rattle.socket_set.specs.Sets.{SetState, clients, is_shut_at, OnClient, OnOne, On, Inserts, Leaves, SameDevices, SameClients, client_of, Goes, AllRest, OthersRest, OneSays, Arrives, SameCounts, Tells, IsQuiet, IsIdle, OwesNoTick, Counted}
 use Rattle.socket_set.specs.Devices.{Waits, AsksClock}
-use Rattle.socket_set.proofs.Steps.{moves_self}
+
+moves_self : (t : Option (List ℕ)) (w : List ℕ) → Moves t w t w []
+moves_self None w = tt
+moves_self (Some t) w = sym (append-nil (t ++ w))
 
 pub moved_self : (r : ClientState) → Moved [] r r
 moved_self r =
@@ -89,6 +93,7 @@ says_two c r m s e g h =
     record {
       due = due_two c r m s e g h.due;
       not_shut = sym g.moved.shut ∙ h.not_shut;
+      trouble = λ t. h.trouble (g.troubled t);
       wanted = h.wanted ∙ ap (λ w. wanted_after e w) g.wanted;
     }
 
@@ -373,13 +378,18 @@ failed_counted a b g f h =
 pub rose_kept : (a b : SetState) (x : ℕ) → SameDevices a b → Rose x a.ports.waits → Rose x b.ports.waits
 rose_kept a b x h r = subst (λ p. Rose x p.waits) (sym h.ports) r
 
--- what was idle later
-pub idle_later : (a b d : SetState) → Counted a b → IsIdle b d → IsIdle a d
-idle_later a b d c h =
+-- the ports were asked after a turn that had nothing to tell
+pub waits_later : (a b : SetState) (x : ℕ) → Counted a b → Rose b.ports.waits x → Rose a.ports.waits x
+waits_later a b x c h = rose_more a.ports.waits b.ports.waits x c.waits h
+
+-- a round brought nothing, and nothing more is there
+pub idle_after : (a b d : SetState) → Counted a b → Rose a.ports.waits b.ports.waits → Counted b d → OwesNoTick b d
+    → All (λ row. IsStillOrShut row.1) d.rows → IsIdle a d
+idle_after a b d c asked e owes still =
     record {
-      tick = record { asked = rose_more a.ports.looks b.ports.looks d.ports.looks c.looks h.tick.asked; none_owed = h.tick.none_owed };
-      ready = rose_more a.ports.waits b.ports.waits d.ports.waits c.waits h.ready;
-      still = h.still;
+      tick = record { asked = rose_more a.ports.looks b.ports.looks d.ports.looks c.looks owes.asked; none_owed = owes.none_owed };
+      ready = rose_on a.ports.waits b.ports.waits d.ports.waits asked e.waits;
+      still = still;
     }
 
 pub devices_self : (a : SetState) → SameDevices a a

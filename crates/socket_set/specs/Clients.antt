@@ -1,5 +1,5 @@
 -- What the set holds of each client, and what an event says of it.
-use Rattle.std.specs.Prelude.{◌≡◌, ℕ, ◌≤◌, ◌<◌, ◌+◌, ◌-◌, ◌^◌, ◌⊎◌, min, Bool, true, false, not, ◌&&◌, if◌then◌else◌, List, [], ◌++◌, length, Option, Some, None}
+use Rattle.std.specs.Prelude.{◌≡◌, ℕ, ◌≤◌, ◌<◌, nat_lt, ◌+◌, ◌-◌, ◌^◌, ◌⊎◌, min, Bool, true, false, not, ◌&&◌, if◌then◌else◌, List, [], ◌++◌, length, Option, Some, None}
 use Rattle.std.specs.Io.KnownBytes.{Consumes, IsAtEnd}
 use Rattle.host_trace.specs.declared.items.Event.{Event}
 use Rattle.host_trace.specs.declared.items.Event.TheVariants.{ClientBytes, ClientEof, ClientGone, Wrote, WsText, WsBinary, WsClosed, WsBad, NoRoom}
@@ -65,11 +65,23 @@ IsDue c r s (WsBad d) = (d ≡ c) × (r.wanted ≡ true) × (r.upgraded ≡ true
 IsDue c r s (NoRoom d) = (d ≡ c) × (s.untold ≡ r.untold) × (s.shut ≡ r.shut)
 IsDue c r s _ = ⊥
 
+-- the event tells that a client failed, or that there was no room
+abbrev pub tells_trouble : Event → Bool
+tells_trouble (ClientGone c) = true
+tells_trouble (NoRoom c) = true
+tells_trouble _ = false
+
 -- it gave the event, before it was shut
 pub record Says (c : ℕ) (r s : ClientState) (event : Event) : Type 0 where
   pub due : IsDue c r s event
   pub not_shut : r.shut ≡ false
+  -- where it is in trouble, that is told
+  pub trouble : r.troubled ≡ true → tells_trouble event ≡ true
   pub wanted : s.wanted ≡ wanted_after event r.wanted
+
+-- more waits to be sent than is to
+abbrev pub is_behind : ClientState → Bool
+is_behind s = nat_lt 524288 (length s.outgoing)
 
 -- so much waits that no more is read of a WebSocket
 pub record HasMuch (s : ClientState) : Type 0 where

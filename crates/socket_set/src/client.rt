@@ -19,6 +19,10 @@ const DRAIN_TICKS: u32 = 20;
 // Where more bytes wait to be sent, no more is read of a WebSocket, whose pings are answered unasked.
 const HIGH: usize = 524_288;
 
+// Frames of a WebSocket that would make more bytes wait find no room. Texts with any bytes never do, since what may wait
+// for a client is counted in these; a text of an empty line counts for nothing, and has a frame of two bytes.
+const MOST: usize = 2_097_152;
+
 /// What is still to be told of a client: the next events say so.
 #[derive(Clone, Copy, Debug, PartialEq, Eq)]
 pub enum Trouble {
@@ -76,7 +80,7 @@ impl<S: Socket> Model for Client<S> {
 impl<S: Socket> Client<S> {
     ghost use Rattle.std.specs.Prelude.{◌≡◌, ◌++◌, ◌+◌, ◌-◌, ◌^◌, ◌≤◌, ◌<◌, ◌==◌, [], true, false, None, min, length, sum_by, IfSome, IsNone, OnOk, OnErr};
     ghost use Rattle.socket_set.specs.Devices.{FailsUnless};
-    ghost use Rattle.socket_set.specs.Clients.{Rests, Says, CountsFaults, UnlessShut, IsNewClient, Writes, Upgrades, Frames, Shuts, WantsMore, SameButUntold, IsUnwanted, Notes, Fails, SaysMessage, IsStill, IsStillOrShut, HasMuch};
+    ghost use Rattle.socket_set.specs.Clients.{Rests, Says, CountsFaults, UnlessShut, IsNewClient, Writes, Upgrades, Frames, Shuts, WantsMore, SameButUntold, IsUnwanted, Notes, Fails, SaysMessage, IsStill, IsStillOrShut, HasMuch, is_behind};
 
     /// A client of which nothing was heard.
     pub fn new(alloc: Global, socket: S) -> Self
@@ -202,9 +206,13 @@ impl<S: Socket> Client<S> {
             return;
         };
         let frames = link.take_out();
-        if self.outgoing.push(frames.as_slice()).is_err() {
+        if !self.has_room_for(frames.len()) || self.outgoing.push(frames.as_slice()).is_err() {
             self.fail(Trouble::NoRoom);
         }
+    }
+
+    fn has_room_for(&self, count: usize) -> bool {
+        self.outgoing.len().saturating_add(count) <= MOST
     }
 
     /// It is over. What waits is still sent.
@@ -312,7 +320,14 @@ impl<S: Socket> Client<S> {
     fn is_read(&self) -> bool
         ensures { result ≡ false → HasMuch self.now }
     {
-        !self.upgraded || self.outgoing.len() <= HIGH
+        !self.upgraded || !self.is_behind()
+    }
+
+    /// More than 524,288 bytes wait to be sent, so it is asked before anything adds to them.
+    pub fn is_behind(&self) -> bool
+        ensures { result ≡ is_behind self.now }
+    {
+        self.outgoing.len() > HIGH
     }
 
     // Whether its socket has no room for what waits.
@@ -457,6 +472,7 @@ impl<S: Socket> Client<S> {
     // Has the socket take what it takes of what waits.
     fn send(&mut self, c: u64) -> Option<Event>
         requires shut { self.old.shut ≡ false }
+        requires untroubled { self.old.troubled ≡ false }
         requires some { 0 < length self.old.outgoing }
         ensures some { IfSome result (Says c self.old self.new) }
         ensures none { IsNone result → Rests self.old self.new }
@@ -498,6 +514,7 @@ impl<S: Socket> Client<S> {
     // Reads what its client sent.
     fn hear_bytes(&mut self, alloc: Global, c: u64, buffer: &mut [u8]) -> Option<Event>
         requires shut { self.old.shut ≡ false }
+        requires untroubled { self.old.troubled ≡ false }
         requires wanted { self.old.wanted ≡ true }
         requires plain { self.old.upgraded ≡ false }
         requires buffer { (0 < length buffer.old) × (length buffer.old ≤ 65536) }
@@ -534,6 +551,7 @@ impl<S: Socket> Client<S> {
     // The next message, or else what its client sent is read.
     fn hear_message(&mut self, alloc: Global, c: u64, buffer: &mut [u8]) -> Option<Event>
         requires shut { self.old.shut ≡ false }
+        requires untroubled { self.old.troubled ≡ false }
         requires wanted { self.old.wanted ≡ true }
         requires upgraded { self.old.upgraded ≡ true }
         requires buffer { (0 < length buffer.old) × (length buffer.old ≤ 65536) }
@@ -581,6 +599,7 @@ impl<S: Socket> Client<S> {
     // The next message of the link. What it answers to pings and to a close waits to be sent.
     fn next_message(&mut self, c: u64) -> Option<Event>
         requires shut { self.old.shut ≡ false }
+        requires untroubled { self.old.troubled ≡ false }
         requires wanted { self.old.wanted ≡ true }
         requires upgraded { self.old.upgraded ≡ true }
         ensures some { IfSome result (Says c self.old self.new) }

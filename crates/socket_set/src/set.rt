@@ -1,16 +1,21 @@
 // The clients of a loop.
-ghost use Rattle.std.specs.Prelude.{◌≡◌, is_ok, not, if◌then◌else◌};
+ghost use Rattle.std.specs.Prelude.{◌≡◌, not};
+
+mod acts;
 
 use super::client::Due;
 use super::{Arrival, Client, Ports, Ready};
-use host_base::{NoMemory, Peer, Text};
-use host_trace::{Act, Acted, Event};
+use host_base::{NoMemory, Peer};
+use host_trace::Event;
 use std::alloc::Global;
 use std::collections::{BTreeMap, VecDeque};
 use std::marker::Model;
 
 // How many bytes one read takes at most.
 const PIECE: usize = 65_536;
+
+// How many events of clients come at most between two ticks that are both owed.
+const BEFORE_TICK: u32 = 64;
 
 /// What asking all brought.
 #[derive(Drop)]
@@ -42,6 +47,8 @@ pub struct SocketSet<P: Ports> {
     most: usize,
     accepted: u64,
     ticked: u64,
+    // So many more are heard before the next tick is told, where it is owed already.
+    before_tick: u32,
     buffer: Vec<u8>,
     faults: u64,
 }
@@ -58,11 +65,10 @@ impl<P: Ports> Model for SocketSet<P> {
 }
 
 impl<P: Ports + Drop> SocketSet<P> {
-    ghost use Rattle.std.specs.Prelude.{◌≡◌, ◌+◌, ◌-◌, ◌^◌, ◌<◌, true, false, [], None, All, IfOk, IfSome, IsSome, IsNone, OnOk, OnErr, length, sum_by};
+    ghost use Rattle.std.specs.Prelude.{◌≡◌, ◌+◌, ◌-◌, ◌^◌, ◌<◌, true, false, [], None, All, IfOk, IfSome, IsSome, IsNone};
     ghost use Rattle.host_base.specs.Outsides.{Rose};
-    ghost use Rattle.host_trace.specs.Told.{is_failure};
-    ghost use Rattle.socket_set.specs.Clients.{Says, Rests, UnlessShut, Keeps, Notes, WantsMore, Writes, Upgrades, Frames, Shuts, IsStillOrShut, has_failed};
-    ghost use Rattle.socket_set.specs.Sets.{SetState, Tells, IsQuiet, IsIdle, OwesNoTick, told_by, Counted, OnOne, On, Inserts, Leaves, SameDevices, SameClients, Acts, is_shut_at, is_open_at, clients};
+    ghost use Rattle.socket_set.specs.Clients.{Says, Rests, Keeps, Notes, IsStillOrShut, has_failed};
+    ghost use Rattle.socket_set.specs.Sets.{SetState, Tells, IsQuiet, IsIdle, OwesNoTick, told_by, Counted, OnOne, On, Inserts, Leaves, SameDevices, SameClients, is_shut_at, is_open_at, is_behind_at, clients};
 
     /// A set of no client yet, with room for `most`, those that were shut among them.
     pub fn new(alloc: Global, ports: P, most: u32) -> Result<SocketSet<P>, NoMemory>
@@ -85,6 +91,7 @@ impl<P: Ports + Drop> SocketSet<P> {
             most,
             accepted: 0,
             ticked: 0,
+            before_tick: 0,
             buffer: vec![in alloc; 0u8; PIECE]?,
             faults: 0,
         })
@@ -92,7 +99,7 @@ impl<P: Ports + Drop> SocketSet<P> {
 
     /// One event of a client or of the clock. Nothing comes only where nothing is there: the clock was asked, and what
     /// is ready, and no client has anything to tell.
-    #[tactic(auto, using(crate::proofs::Sets::tells_two, crate::proofs::Sets::quiet_two, crate::proofs::Sets::counted_two, crate::proofs::Sets::rose_later))]
+    #[tactic(auto, using(crate::proofs::Sets::counted_two, crate::proofs::Sets::rose_later))]
     pub fn poll(&mut self) -> Polled
         ensures some { IfSome (told_by result) (λ event. Tells event self.old self.new) }
         ensures none { IsNone (told_by result) → IsQuiet self.old self.new }
@@ -100,23 +107,88 @@ impl<P: Ports + Drop> SocketSet<P> {
         ensures counted { Counted self.old self.new }
         ensures failure { has_failed (told_by result) ≡ true → Rose self.old.faults self.new.faults }
     {
-        match self.tick() {
+        match self.glance() {
             Some(event) => Polled::Told(event),
-            None => self.ask_all(),
+            None => self.end_round(),
+        }
+    }
+
+    /// One event of a client or of the clock, if one is at hand, after one look at what is ready. Where there is none
+    /// something may still be there to be told, which `poll` finds out by going over all clients.
+    #[tactic(auto, using(crate::proofs::Sets::counted_two, crate::proofs::Sets::rose_later))]
+    pub fn glance(&mut self) -> Option<Event>
+        ensures some { IfSome result (λ event. Tells event self.old self.new) }
+        ensures none { IsNone result → IsQuiet self.old self.new }
+        ensures asked { IsNone result → Rose self.old.ports.waits self.new.ports.waits }
+        ensures counted { Counted self.old self.new }
+        ensures failure { has_failed result ≡ true → Rose self.old.faults self.new.faults }
+    {
+        match self.hear_before_tick() {
+            Some(event) => Some(event),
+            None => self.tick_or_ask(),
+        }
+    }
+
+    // Asks those that are due before the next tick, where one is owed and another was just told: else a loop that was held up
+    // for long would tell all its ticks before it hears what was sent meanwhile.
+    #[tactic(auto, using(crate::proofs::Sets::quiet_self, crate::proofs::Sets::quiet_same, crate::proofs::Sets::counted_self, crate::proofs::Sets::counted_two, crate::proofs::Sets::rose_later))]
+    fn hear_before_tick(&mut self) -> Option<Event>
+        ensures some { IfSome result (λ event. Tells event self.old self.new) }
+        ensures none { IsNone result → IsQuiet self.old self.new }
+        ensures counted { Counted self.old self.new }
+        ensures failure { has_failed result ≡ true → Rose self.old.faults self.new.faults }
+    {
+        if !self.hears_before_tick() {
+            return None;
+        }
+        if self.is_tick_owed() {
+            return self.ask_now();
+        }
+        self.catch_up();
+        None
+    }
+
+    // Counts how often clients are heard before the next tick.
+    fn hears_before_tick(&mut self) -> bool
+        ensures { self.new ≡ self.old }
+    {
+        let hears = self.before_tick > 0;
+        self.before_tick = self.before_tick.saturating_sub(1);
+        hears
+    }
+
+    // The next tick is told once it is owed.
+    fn catch_up(&mut self)
+        ensures { self.new ≡ self.old }
+    {
+        self.before_tick = 0;
+    }
+
+    #[tactic(auto, using(crate::proofs::Sets::counted_two, crate::proofs::Sets::rose_later))]
+    fn tick_or_ask(&mut self) -> Option<Event>
+        ensures some { IfSome result (λ event. Tells event self.old self.new) }
+        ensures none { IsNone result → IsQuiet self.old self.new }
+        ensures asked { IsNone result → Rose self.old.ports.waits self.new.ports.waits }
+        ensures counted { Counted self.old self.new }
+        ensures failure { has_failed result ≡ true → Rose self.old.faults self.new.faults }
+    {
+        match self.tick() {
+            Some(event) => Some(event),
+            None => self.ask_now(),
         }
     }
 
     // Asks those that are due. Once in a round the ports are asked what is ready, and before nothing is told.
     #[tactic(auto, using(crate::proofs::Sets::counted_two, crate::proofs::Sets::rose_later))]
-    fn ask_all(&mut self) -> Polled
-        ensures some { IfSome (told_by result) (λ event. Tells event self.old self.new) }
-        ensures none { IsNone (told_by result) → IsQuiet self.old self.new }
-        ensures nothing { result ≡ Polled.Nothing → IsIdle self.old self.new }
+    fn ask_now(&mut self) -> Option<Event>
+        ensures some { IfSome result (λ event. Tells event self.old self.new) }
+        ensures none { IsNone result → IsQuiet self.old self.new }
+        ensures asked { IsNone result → Rose self.old.ports.waits self.new.ports.waits }
         ensures counted { Counted self.old self.new }
-        ensures failure { has_failed (told_by result) ≡ true → Rose self.old.faults self.new.faults }
+        ensures failure { has_failed result ≡ true → Rose self.old.faults self.new.faults }
     {
         match self.ask_rest() {
-            Some(event) => Polled::Told(event),
+            Some(event) => Some(event),
             None => self.look_and_ask(),
         }
     }
@@ -137,18 +209,15 @@ impl<P: Ports + Drop> SocketSet<P> {
     }
 
     #[tactic(auto, using(crate::proofs::Sets::counted_two, crate::proofs::Sets::rose_later))]
-    fn look_and_ask(&mut self) -> Polled
-        ensures some { IfSome (told_by result) (λ event. Tells event self.old self.new) }
-        ensures none { IsNone (told_by result) → IsQuiet self.old self.new }
-        ensures nothing { result ≡ Polled.Nothing → IsIdle self.old self.new }
+    fn look_and_ask(&mut self) -> Option<Event>
+        ensures some { IfSome result (λ event. Tells event self.old self.new) }
+        ensures none { IsNone result → IsQuiet self.old self.new }
+        ensures asked { IsNone result → Rose self.old.ports.waits self.new.ports.waits }
         ensures counted { Counted self.old self.new }
-        ensures failure { has_failed (told_by result) ≡ true → Rose self.old.faults self.new.faults }
+        ensures failure { has_failed result ≡ true → Rose self.old.faults self.new.faults }
     {
         self.begin_round(0);
-        match self.ask_round() {
-            Some(event) => Polled::Told(event),
-            None => self.end_round(),
-        }
+        self.ask_round()
     }
 
     // Asks those that are due, each once, up to the first that has something to tell.
@@ -177,6 +246,7 @@ impl<P: Ports + Drop> SocketSet<P> {
         ensures quiet { IsQuiet self.old self.new }
         ensures counted { Counted self.old self.new }
     {
+        self.catch_up();
         if self.is_any_busy() || self.is_tick_owed() {
             Polled::Again
         } else {
@@ -425,7 +495,11 @@ impl<P: Ports + Drop> SocketSet<P> {
                 self.accepted += 1;
                 true
             }
-            Err(_) => false,
+            Err(failed) => {
+                let (_, mut client) = failed.value;
+                client.forget(&mut self.ports);
+                false
+            }
         }
     }
 
@@ -441,6 +515,7 @@ impl<P: Ports + Drop> SocketSet<P> {
             return None;
         }
         self.ticked += 1;
+        self.before_tick = BEFORE_TICK;
         let secs = self.ports.seconds();
         self.resume();
         self.tick_leaving();
@@ -577,83 +652,6 @@ impl<P: Ports + Drop> SocketSet<P> {
         }
     }
 
-    /// Does an act on a client. Others do nothing.
-    pub fn act(&mut self, act: &Act) -> Acted
-        ensures { Acts act.now result self.old self.new }
-    {
-        match act {
-            Act::WantClient { c } => self.want(*c),
-            Act::Write { c, bytes } => return acted(self.write(*c, bytes.as_slice())),
-            Act::Upgrade { c, rest } => return acted(self.upgrade(*c, rest.as_slice())),
-            Act::Says { c, texts } => self.say(*c, texts.as_slice()),
-            Act::CloseWs { c, code } => self.close(*c, *code),
-            Act::Shut { c, .. } => self.shut(*c),
-            _ => {}
-        }
-        Acted::Done
-    }
-
-    fn want(&mut self, c: u64)
-        ensures { On c (UnlessShut WantsMore) self.old self.new }
-    {
-        if let Some(client) = self.clients.get_mut(&c) {
-            client.want();
-            client.enqueue(&mut self.due, c);
-        }
-    }
-
-    fn write(&mut self, c: u64, bytes: &[u8]) -> Result<(), NoMemory>
-        ensures ok { OnOk result (On c (UnlessShut (Writes bytes.now)) self.old self.new) }
-        ensures err { OnErr result (On c Keeps self.old self.new) }
-    {
-        let Some(client) = self.clients.get_mut(&c) else {
-            return Ok(());
-        };
-        client.write(bytes)?;
-        client.enqueue(&mut self.due, c);
-        Ok(())
-    }
-
-    fn upgrade(&mut self, c: u64, rest: &[u8]) -> Result<(), NoMemory>
-        ensures ok { OnOk result (On c (UnlessShut Upgrades) self.old self.new) }
-        ensures err { OnErr result (On c Keeps self.old self.new) }
-    {
-        let Some(client) = self.clients.get_mut(&c) else {
-            return Ok(());
-        };
-        client.upgrade(self.alloc, rest)?;
-        client.enqueue(&mut self.due, c);
-        Ok(())
-    }
-
-    fn say(&mut self, c: u64, texts: &[Text])
-        ensures { On c (UnlessShut (Frames (sum_by length texts.now))) self.old self.new }
-    {
-        if let Some(client) = self.clients.get_mut(&c) {
-            client.say(texts);
-            client.enqueue(&mut self.due, c);
-        }
-    }
-
-    fn close(&mut self, c: u64, code: u16)
-        ensures { On c (UnlessShut (Frames 0)) self.old self.new }
-    {
-        if let Some(client) = self.clients.get_mut(&c) {
-            client.close(code);
-            client.enqueue(&mut self.due, c);
-        }
-    }
-
-    fn shut(&mut self, c: u64)
-        ensures { On c Shuts self.old self.new }
-    {
-        if let Some(client) = self.clients.get_mut(&c) {
-            client.shut();
-            client.enqueue(&mut self.due, c);
-            let _ = self.leaving.push_back(c);
-        }
-    }
-
     /// No further client is accepted.
     pub fn end_listening(&mut self)
         ensures { self.new ≡ record self.old { listening = false } }
@@ -668,6 +666,16 @@ impl<P: Ports + Drop> SocketSet<P> {
     {
         match self.clients.get(&c) {
             Some(client) => !client.is_shut(),
+            None => false,
+        }
+    }
+
+    /// More than 524,288 bytes wait to be sent to client c, so the clients are to be asked before anything adds to them.
+    pub fn is_behind(&self, c: u64) -> bool
+        ensures { result ≡ is_behind_at (clients self.now c) }
+    {
+        match self.clients.get(&c) {
+            Some(client) => client.is_behind(),
             None => false,
         }
     }
@@ -696,14 +704,5 @@ impl<P: Ports + Drop> SocketSet<P> {
         ensures { result ≡ self.now.faults }
     {
         self.faults
-    }
-}
-
-fn acted(done: Result<(), NoMemory>) -> Acted
-    ensures { result ≡ (if is_ok done then Acted.Done else Acted.NoRoom) }
-{
-    match done {
-        Ok(()) => Acted::Done,
-        Err(NoMemory) => Acted::NoRoom,
     }
 }

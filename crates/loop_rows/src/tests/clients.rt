@@ -151,7 +151,7 @@ fn what_comes_is_told_once(rt: HostRuntime) -> Result<(), Fail> {
 
 #[test]
 fn ends_ticks_and_failures_are_told(rt: HostRuntime) -> Result<(), Fail> {
-    let rows: [Row; 6] = [
+    let rows: [Row; 7] = [
         (PLAIN, b"pWspwp", b"A--", 0),
         (
             Plan {
@@ -163,6 +163,8 @@ fn ends_ticks_and_failures_are_told(rt: HostRuntime) -> Result<(), Fail> {
             0,
         ),
         (PLAIN, b"pzppzpzp", b"A--tt", 0),
+        // Two ticks are owed, and between them a client is heard.
+        (PLAIN, b"ppzzwppp", b"A-tbt", 0),
         (
             Plan {
                 accepts_fail: 1,

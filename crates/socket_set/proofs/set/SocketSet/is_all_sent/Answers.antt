@@ -1,4 +1,4 @@
-use Rattle.std.proofs.Common.{◌≡◌, [], All}
+use Rattle.std.proofs.Common.{◌≡◌, []}
 use Rattle.std.specs.Map.Iter.{deref_pair}
 use Rattle.std.proofs.lemmas.Map.Iter.{rest_more}
 use Rattle.std.proofs.lemmas.List.Elements.{All-cons}

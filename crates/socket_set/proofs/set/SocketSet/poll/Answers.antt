@@ -1,14 +1,10 @@
 use Rattle.std.proofs.Common.{refl}
-use Rattle.socket_set.specs.Sets.{told_by}
-use Rattle.socket_set.proofs.Sets.{quiet_two, tells_later, idle_later}
+use Rattle.socket_set.proofs.Sets.{quiet_two, idle_after}
 use Rattle.socket_set.proofs.set.SocketSet.poll.Goals as goal
 
-pub returns-in-None-clause-some : goal.returns-in-None-clause-some
-returns-in-None-clause-some g c =
-    tells_later (told_by c.ask_all.result) _ _ _ (c.tick.ensures.none (rw c.in-None.is refl)) c.ask_all.ensures.some
-
 pub returns-in-None-clause-none : goal.returns-in-None-clause-none
-returns-in-None-clause-none g c = λ n. quiet_two _ _ _ (c.tick.ensures.none (rw c.in-None.is refl)) (c.ask_all.ensures.none n)
+returns-in-None-clause-none g c = λ _. quiet_two _ _ _ (c.glance.ensures.none (rw c.in-None.is refl)) c.end_round.ensures.quiet
 
 pub returns-in-None-clause-nothing : goal.returns-in-None-clause-nothing
-returns-in-None-clause-nothing g c = λ n. idle_later _ _ _ c.tick.ensures.counted (c.ask_all.ensures.nothing n)
+returns-in-None-clause-nothing g c =
+    λ n. idle_after _ _ _ c.glance.ensures.counted (c.glance.ensures.asked (rw c.in-None.is refl)) c.end_round.ensures.counted (c.end_round.ensures.tick n) (c.end_round.ensures.still n)

@@ -1,0 +1,9 @@
+use Rattle.std.proofs.Common.{refl}
+use Rattle.once_edge.proofs.Quiet.{child_later_some, later_none}
+use Rattle.once_edge.proofs.outside.OnceOutside.hear_child_last.Goals as goal
+
+pub returns-in-None-clause-some : goal.returns-in-None-clause-some
+returns-in-None-clause-some g c = child_later_some _ c.hear_child.result _ _ _ (c.hear_rest.ensures.none (rw c.in-None.is refl)) c.hear_child.ensures.some
+
+pub returns-in-None-clause-none : goal.returns-in-None-clause-none
+returns-in-None-clause-none g c = λ n. later_none _ _ _ _ (c.hear_rest.ensures.none (rw c.in-None.is refl)) (c.hear_child.ensures.none n)
