@@ -58,7 +58,8 @@ pub trait TakesTurns {
         ensures keeps { keeps self.old self.new };
 }
 
-/// Each loop takes its turns, in a thread of its own. A single one takes them in the thread of the caller.
+/// Each loop takes its turns, in a thread of its own where there are at most 16; of more some share one, and take them one
+/// after the other. A single one takes them in the thread of the caller.
 pub fn take_all_turns<R: Threads + Sync, L: TakesTurns + Send>(rt: &R, loops: &mut [L], turns: u64)
     requires turns { turns ≤ 2 ^ 62 }
     requires begin { All L.begins loops.old }

@@ -28,17 +28,17 @@ pub const HELP: &str =
 
 SITE is PATH=PROGRAM, a path and the file of the program that is served under it, or the name of a site file.
 
-It ends with one of these, and says which on standard error where it is not 0:
+It ends with one of these, and says so on standard error where it is not 0:
   0  the work was done
-  2  the words have none of these forms
-  3  the site file has the fault that is named
-  4  the site file could not be read
-  5  the world could not be entered, as where an address is taken
-  6  all turns were used
-  7  the report could not be written
-  8  memory was wanting
+  2  usage: the words have none of these forms
+  3  site refused: the site file has the fault that is named
+  4  site file not read: it is missing, unreadable or too long
+  5  could not begin: mostly, the port is taken
+  6  turns spent: so many events were heard, and the work had not ended
+  7  report not written
+  8  out of memory
 
-The manual is README.md and the pages of docs/ in the sources of cgihost.
+The manual is cgihost(1) and cgihost.toml(5), in the folder docs of the sources.
 ";
 
 /// The text of `--version`.

@@ -13,8 +13,9 @@ use host_trace::Outside;
 use std::alloc::Global;
 use std::thread::Threads;
 
-/// Serves what outsides hand up, each in a loop of its own for so many turns at most, and each loop in a thread of its own.
-/// The outsides are new ones, and stay in their places. It waits only in their `next`, and for the last loop.
+/// Serves what outsides hand up, each in a loop of its own for so many turns at most, and each loop in a thread of its own
+/// where there are at most 16; of more some share one, and run one after the other. The outsides are new ones, and stay in
+/// their places. It waits only in their `next`, and for the last loop.
 pub fn serve_all<R: Threads + Sync, O: Outside + Send>(
     rt: &R,
     alloc: Global,

@@ -14,9 +14,9 @@ use std::alloc::Global;
 use std::thread::Threads;
 
 /// Enters a world for so many loops over a site, serves its connections for so many turns of each loop at most, each of
-/// which hears one event, and gives its outsides back. Each loop runs in a thread of its own, a single one in that of the
-/// caller. Every trace that the world tells of them is good, and the host was ready at each step's end, whatever its
-/// clients, children and clock did.
+/// which hears one event, and gives its outsides back. Each of at most 16 loops runs in a thread of its own, a single one in
+/// that of the caller; of more some share a thread, and run one after the other. Every trace that the world tells of them is
+/// good, and the host was ready at each step's end, whatever its clients, children and clock did.
 pub fn serve_site<R: Threads + Sync, W: World>(
     rt: &R,
     alloc: Global,
