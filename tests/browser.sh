@@ -25,10 +25,7 @@ start
 # A server that speaks WebSocket says so to a handshake.
 shaken=$(curl -s -m 2 -o answer -w '%{http_code}' -H 'Connection: Upgrade' -H 'Upgrade: websocket' -H 'Sec-WebSocket-Version: 13' \
     -H 'Sec-WebSocket-Key: dGhlIHNhbXBsZSBub25jZQ==' -H "Origin: $url" "$url/live/echo")
-[ "$shaken" = 101 ] || {
-    echo 'skipped: WebSockets are not served'
-    exit 0
-}
+if [ "$shaken" = 101 ]; then ok; else bad "a handshake is answered with $shaken"; fi
 
 picture=${PICTURE:-$folder/page.png}
 if python3 "$root/tests/browser.py" "$chromium" "$url/live" "$picture" 2>wrong; then ok; else bad "the live page: $(tail -n 1 wrong)"; fi

@@ -94,8 +94,7 @@ speaks_websocket() {
     [ "$(curl -s -m 2 -o got -w '%{http_code}' -H 'Connection: Upgrade' -H 'Upgrade: websocket' -H 'Sec-WebSocket-Version: 13' \
         -H 'Sec-WebSocket-Key: dGhlIHNhbXBsZSBub25jZQ==' -H "Origin: http://127.0.0.1:$port" "http://127.0.0.1:$1/live/echo")" = 101 ]
 }
-websocket=
-if speaks_websocket "$port"; then websocket=yes; else echo 'skipped: WebSockets are not served'; fi
+if speaks_websocket "$port"; then ok; else bad 'no WebSocket is served'; fi
 
 end_front() {
     [ -z "$front" ] || { kill "$front" && wait "$front"; } 2>/dev/null
@@ -125,9 +124,7 @@ behind() {
     times=$(curl -s -N -m 20 -o got -w '%{time_starttransfer} %{time_total}' "$url/counter")
     same "$name: what is counted" "$(tr '\n' ' ' <got)" '1 2 3 4 5 '
     if awk '{ exit !($1 < $2 - 1) }' <<<"$times"; then ok; else bad "$name: the first byte and the end came at $times s"; fi
-    if [ -n "$websocket" ]; then
-        if speaks_websocket "$front_port"; then ok; else bad "$name: no WebSocket"; fi
-    fi
+    if speaks_websocket "$front_port"; then ok; else bad "$name: no WebSocket"; fi
     [ "$failed" = 0 ] || sed 's/^/    /' "$name.log" | tail -n 5
     end_front
 }

@@ -1,8 +1,8 @@
 #!/usr/bin/env bash
 # Tries the manual pages of docs/: they format without a warning, each site file that one shows is taken by the built
-# program as the page says, and the page on the commands has those that there are and the statuses, with the lines that
-# they are said by. What its examples write is compared in examples.sh. It wants the program that `rt ci` leaves, and
-# works in a temporary folder.
+# program as the page says, and the page on the commands has those that there are, the statuses with the lines that they
+# are said by, and the refusals. What its examples write is compared in examples.sh. It wants the program that `rt ci`
+# leaves, and works in a temporary folder.
 . "$(dirname "$0")/common.sh"
 
 # The names are the same text.
@@ -42,6 +42,14 @@ sed -n '/^\.Sh EXIT STATUS/,/^\.Sh DIAGNOSTICS/s/^\.It \([0-9]\)$/\1/p' "$page" 
 awk '$1 ~ /^[0-9]$/ { print $1 }' help >helped
 same 'the statuses' "$(cat paged)" "$(cat helped)"
 same 'words of no form' "$("$program" no 2>&1)" "$(sed -n 's/^\.It Li "\(cgihost: usage.*\)"$/\1/p' "$page")"
+
+# The page names each refusal that a client may read, apart from those of gateways, which no command serves.
+sed -n '/pub fn text/,/^}/s/.* => "\(.*\)",$/\1/p' "$root/crates/host_base/src/cause.rt" |
+    grep -v -e ' scgi ' -e 'bad parameters' -e 'bad record' >texts
+while IFS= read -r text; do
+    same "the page has: $text" "$(grep -c "[345][0-9][0-9] $text" "$page")" 1
+done <texts
+same 'there are refusals' "$([ "$(wc -l <texts)" -gt 30 ] && echo many)" many
 
 # The limits of the page on site files are those that an upgraded file has, with their defaults.
 "$program" upgrade /hello=/bin/cat | sed -n '/^\[limits\]/,/^$/s/ = / /p' | sort >written
