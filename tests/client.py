@@ -6,6 +6,7 @@ Each case is a function below; serve.sh says what the programs behind the paths 
 """
 import hashlib
 import os
+import signal
 import socket
 import sys
 import time
@@ -311,6 +312,36 @@ def leaves(port):
         check(not gone(pid), f"{path}: the program was not running")
         how(it)
         await_end(pid, 10)
+
+
+def strays(port, most):
+    """Programs whose connections are reset leave others behind, which hold their output. Once there are so many of these no
+    program is started, and when they have ended one is. One program may run at a time."""
+    left = []
+    try:
+        status = 200
+        while status != 502 and len(left) <= int(most):
+            it = Connection(port)
+            it.send(get("/strays"))
+            status, fields = it.head()
+            if status == 200:
+                left.append(int(it.chunk()))
+                it.reset()
+            else:
+                it.body(fields)
+                it.close()
+        same("the last status", status, 502)
+        same("those that were left", len(left), int(most))
+    finally:
+        for pid in left:
+            os.kill(pid, signal.SIGKILL)
+    end = time.monotonic() + 10
+    while status != 200:
+        check(time.monotonic() < end, f"the status is {status} once they have ended")
+        it = Connection(port)
+        it.send(get("/hi"))
+        status = it.reply()[0]
+        it.close()
 
 
 def half_closed(port):

@@ -36,6 +36,9 @@ script chatty 'printf "Content-Type: text/plain\n\n%s\n" $$
 while sleep 0.2; do
     echo more
 done'
+script strays 'sleep 100 &
+printf "Content-Type: text/plain\n\n%s\n" $!
+exec sleep 100'
 script open 'printf "Content-Type: text/plain\n\n"
 ls -l /proc/$$/fd'
 
@@ -45,7 +48,7 @@ site() {
     {
         printf 'version = 2\nport = %s\n\n[limits]\n%s\n\n' "$port" "$1"
         printf '[[host]]\nname = "a.example"\naliases = ["www.a.example", "127.0.0.1"]\n'
-        for name in hi query sum echo slow nap long chatty zeros lingers clock open; do
+        for name in hi query sum echo slow nap long chatty zeros lingers clock strays open; do
             printf '\n[[host.script]]\npath = "/%s"\nprogram = "%s/%s"\n' "$name" "$folder" "$name"
         done
         printf '\n[[host]]\nname = "b.example"\n\n[[host.script]]\npath = "/b"\nprogram = "%s/hi"\n' "$folder"
@@ -139,6 +142,17 @@ site 'children = 3'
 serve
 plays many 8 3
 end_server
+
+# ---- programs that leave others behind, which hold their output: each keeps a thread of the server's, and a loop has no
+# more than 128 of those. Once they have ended, no more threads wait than behind other programs.
+if [ -z "$loops" ]; then
+    site 'children = 1'
+    serve
+    plays strays 128
+    sleep 1
+    if [ "$(entries task)" -le 66 ]; then ok; else bad "what programs left behind: $(entries task) threads are kept"; fi
+    end_server
+fi
 
 # ---- a client that sends nothing is let go
 site 'idle_ticks = 5'

@@ -2,8 +2,6 @@ ghost use Rattle.std.specs.Prelude.{◌≡◌, [], IfOk};
 ghost use Rattle.child_edge.specs.Rows.{AllSound};
 ghost use Rattle.std_spawner.specs.Kids.{kid_tells};
 
-mod hard;
-
 use child_edge::{ChildSet, SpawnFault};
 use crossbeam_utils::sync::Parker;
 use host_base::{Launch, NoMemory, Pair, Pairs, Text, Texts};
