@@ -146,7 +146,7 @@ def pipelined_far(port):
     while waits and time.monotonic() < end:
         try:
             waits = waits[it.socket.send(waits):]
-        except TimeoutError:
+        except socket.timeout:
             pass
     it.socket.settimeout(SECONDS)
     it.socket.setblocking(False)
@@ -464,6 +464,27 @@ def under_way(port, what):
     nap.to_end()
 
 
+def over_first(port):
+    """Where one of several loops has a program that runs on, `drain` ends the kept connections of the others at once, and
+    `stop` is heard though those loops are over."""
+    kept = [Connection(port) for _ in range(16)]
+    for it in kept:
+        it.send(get("/hi"))
+        same("a kept connection", it.reply(), (200, b"hi\n"))
+    begin(port, "/long")
+    print("drain", flush=True)
+    time.sleep(1)
+    ended = 0
+    for it in kept:
+        it.socket.settimeout(0.02)
+        try:
+            ended += not it.more()
+        except socket.timeout:
+            pass
+    check(4 <= ended < 16, f"{ended} of 16 kept connections were ended")
+    print("stop", flush=True)
+
+
 def closed(port, seconds):
     """Within so many seconds nobody listens any more."""
     end = time.monotonic() + float(seconds)
@@ -505,17 +526,24 @@ def load(port, count, clients):
 
 
 def idles(port, *paths):
-    """Has connections that do nothing for four seconds: one that is silent, half a head, one that is kept, and one for each of
-    these paths, of whose reply nothing is read."""
+    """Has connections that do nothing for four seconds: one that is silent, half a head, one that is kept, and three for each
+    of these paths, of whose reply nothing is read: of the second another request lies there unread, and the third has ended
+    its sending side."""
     silent, half, kept = Connection(port), Connection(port), Connection(port)
     half.send(b"GET /hi HTT")
     kept.send(get("/hi"))
     kept.reply()
     held = [silent, half, kept]
     for path in paths:
-        it = Connection(port)
-        it.send(get(path))
-        held.append(it)
+        for more in (b"", get("/hi"), None):
+            it = Connection(port)
+            it.send(get(path))
+            time.sleep(0.1)
+            if more is None:
+                it.socket.shutdown(socket.SHUT_WR)
+            else:
+                it.send(more)
+            held.append(it)
     time.sleep(4)
 
 

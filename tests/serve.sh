@@ -128,11 +128,11 @@ rests 'after bodies'
 end_server
 
 # ---- it rests beside clients and programs that do nothing: half a head, a kept connection, a program that is silent, one that
-# lives on behind its output, and a client that doesn't read
+# lives on behind its output, and clients that don't read, also where more of theirs lies unread, or their end
 site 'connections = 1024'
 serve
 plays idles /long /lingers /zeros &
-sleep 1
+sleep 2
 rests 'beside what does nothing' 100
 wait $!
 end_server
@@ -144,12 +144,14 @@ plays many 8 3
 end_server
 
 # ---- programs that leave others behind, which hold their output: each keeps a thread of the server's, and a loop has no
-# more than 128 of those. Once they have ended, no more threads wait than behind other programs.
+# more than 128 of those. Once they have ended, the next program finds their threads, and no more wait than behind others.
 if [ -z "$loops" ]; then
     site 'children = 1'
     serve
     plays strays 128
-    sleep 1
+    sleep 0.5
+    plays kept
+    sleep 0.5
     if [ "$(entries task)" -le 66 ]; then ok; else bad "what programs left behind: $(entries task) threads are kept"; fi
     end_server
 fi
@@ -169,6 +171,13 @@ for what in stop drain; do
     ends "$what with requests under way" 0 10
     plays closed 1
 done
+
+# ---- several loops, of which one has a program that runs on: the others are over first
+site ''
+start --loops 4
+{ timeout 60 python3 "$client" over_first "$port" 2>wrong && touch over; } >&9
+if [ -e over ]; then ok; else bad "loops that are over first: $(tail -n 1 wrong)"; fi
+ends 'stop behind drain' 0 5
 
 # ---- while what is under way is served to its end, another server can have the port
 site ''

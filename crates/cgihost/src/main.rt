@@ -108,9 +108,7 @@ fn world<
     let Some(starter) = starters.pop() else {
         return Err(Status::NoMemory);
     };
-    let Ok(maker) = NetMaker::new(rt, alloc, starters, orders) else {
-        return Err(Status::NoMemory);
-    };
+    let maker = NetMaker::new(rt, alloc, starters, orders);
     Ok(RealWorld::new(
         alloc,
         OnceWorld::new(rt, alloc, starter, input, output),

@@ -15,7 +15,6 @@ use Rattle.socket_set.specs.Sets.{Counted as CountedBySet}
 use Rattle.socket_set.proofs.Sets.{counted_self as set_counts, counted_same as set_counts_same}
 use Rattle.edge_loop.specs.Loops.{LoopState, Counts, ToldNoRoom, TellsOpen, TakesOrder, after_order}
 use Rattle.edge_loop.specs.declared.orders.Order.{Order}
-use Rattle.edge_loop.specs.declared.orders.Order.TheVariants.{Stop as StopNow, Drain}
 use Rattle.edge_loop.proofs.Quiet.{counts_self}
 
 module _ {K : Type 0} where
@@ -97,8 +96,7 @@ set_counted (Release k) acted a b h = same_counts a b h.1
 module _ {K : Type 0} where
   order_same : (o : Option Order) (a : LoopState K) → Counts a (after_order o a)
   order_same None a = counts_self a
-  order_same (Some StopNow) a = record { limit = refl; set = set_counts a.set; children = omega arith; full = omega arith }
-  order_same (Some Drain) a =
+  order_same (Some order) a =
       record {
         limit = refl;
         set = record { grown = omega arith; looks = omega arith; waits = omega arith; ports = inl refl };

@@ -19,9 +19,6 @@ keep_head p x xs e f = rw e (ap (λ w. x ∷ w) f)
 rose_more : (a b d : ℕ) → a ≤ b → Rose b d → Rose a d
 rose_more a b d p q = omega (arith, p, q)
 
-rose_on : (a b d : ℕ) → Rose a b → b ≤ d → Rose a d
-rose_on a b d p q = omega (arith, p, q)
-
 module _ {K : Type 0} where
   rows_two : (tells : K → KidTells) (r m s : Row K) → Rests tells r m → Rests tells m s → Rests tells r s
   rows_two tells r m s g h =
@@ -69,9 +66,6 @@ module _ {K : Type 0} where
 
   kept_once : (tells : K → KidTells) (a b : List (Row K)) → Each (Rests tells) (kept a) b → kept b ≡ b
   kept_once tells a b g = kept_rest tells (kept a) b (all_kept a) g
-
-  pub children_self : (tells : K → KidTells) (a : List (Row K)) → ChildrenRest tells a a
-  children_self tells a = inl refl
 
   pub children_quiet : (tells : K → KidTells) (a b : List (Row K)) → Each (IsQuietRow tells) (kept a) b → ChildrenRest tells a b
   children_quiet tells a b g = inr (each_stays tells (kept a) b g)
@@ -174,11 +168,6 @@ module _ {K : Type 0} where
   later_none tells a b d g h = (quiet_two tells a b d g.0 h.0, counts_two a b d g.1 h.1)
 
   -- an event after quiet turns
-  pub some_later : (tells : K → KidTells) (r : Option Event) (a b d : LoopState K) → IsQuiet tells a b → Counts a b
-      → IfSome r (λ e. IsHeard tells e b d × Counted e b d) → IfSome r (λ e. IsHeard tells e a d × Counted e a d)
-  some_later tells None a b d q g h = tt
-  some_later tells (Some e) a b d q g h = (heard_later tells e a b d q h.0, counted_later e a b d g h.1)
-
   pub client_later : (tells : K → KidTells) (r : Option Event) (a b d : LoopState K) → IsQuiet tells a b → Counts a b
       → IfSome r (λ e. OfClient tells e b d × Counted e b d) → IfSome r (λ e. IsHeard tells e a d × Counted e a d)
   client_later tells None a b d q g h = tt
@@ -188,6 +177,3 @@ module _ {K : Type 0} where
       → IfSome r (λ e. OfChild tells e b d × Counted e b d) → IfSome r (λ e. IsHeard tells e a d × Counted e a d)
   child_later_some tells None a b d q g h = tt
   child_later_some tells (Some e) a b d q g h = (heard_later tells e a b d q (inr (inl h.0)), counted_later e a b d g h.1)
-
-  pub child_heard : (tells : K → KidTells) (e : Event) (a b : LoopState K) → OfChild tells e a b → IsHeard tells e a b
-  child_heard tells e a b h = inr (inl h)

@@ -18,7 +18,6 @@ use Rattle.booked_children.specs.Booked.{Begins, ChildrenDo}
 use Rattle.socket_set.specs.Sets.{SetState, Tells, IsQuiet as IsQuietSet, Counted as CountedBySet, Acts as SetActs, clients, is_open_at}
 use Rattle.edge_loop.specs.Orders.{no_end, ticked, ordered_by, stopped_by}
 use Rattle.edge_loop.specs.declared.orders.Order.{Order}
-use Rattle.edge_loop.specs.declared.orders.Order.TheVariants.{Stop as StopNow, Drain}
 use Rattle.edge_loop.specs.declared.asked.Asked.{Asked}
 use Rattle.edge_loop.specs.declared.ending.Ending.{Ending}
 
@@ -48,19 +47,6 @@ none_given _ = None
 -- how often something failed
 abbrev pub faults_of : {K : Type 0} → LoopState K → ℕ
 faults_of s = min (s.set.faults + s.child_faults) (2 ^ 64 - 1)
-
--- an act on a child that runs, and an act on a client
-abbrev pub is_on_child : Act → Bool
-is_on_child (Feed k bytes) = true
-is_on_child (EndInput k) = true
-is_on_child (WantChild k) = true
-is_on_child (Kill k) = true
-is_on_child (Release k) = true
-is_on_child _ = false
-
-abbrev pub is_start : Act → Bool
-is_start (Start k c j hop launch) = true
-is_start _ = false
 
 -- how the end goes on after an event of a client or of the clock
 abbrev pub ending_after : Event → Ending → Ending
@@ -232,8 +218,7 @@ module _ {K : Type 0} where
   -- what an order does to it
   abbrev pub after_order : Option Order → LoopState K → LoopState K
   after_order None s = s
-  after_order (Some StopNow) s = record s { ending = ordered_by StopNow s.ending }
-  after_order (Some Drain) s = record s { ending = ordered_by Drain s.ending; set = record (s.set) { listening = false } }
+  after_order (Some order) s = record s { ending = ordered_by order s.ending; set = record (s.set) { listening = false } }
 
   -- an order was heard, if one came
   pub record TakesOrder (old new : LoopState K) : Type 0 where

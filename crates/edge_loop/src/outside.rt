@@ -16,8 +16,11 @@ use std::marker::Model;
 use std::sync::Wait;
 use std::thread::yield_now;
 
-// After a child is to leave, as at the end of its output, all are asked so often with no wait: an exit comes soon.
-const SOON: u32 = 32;
+// After a child is to leave, as at the end of its output, all are asked so often with no wait: an exit comes soon. Where
+// many children run it is less often, since each time goes over all of them: no more than so many looks at children.
+const SOON: usize = 32;
+
+const LOOKS: usize = 1_024;
 
 // Then the shortest and the longest wait, in milliseconds. What nothing wakes the loop for, as an exit, is asked for
 // after each.
@@ -44,7 +47,7 @@ pub struct NetOutside<P: Ports, S: Spawner, O: Orders, L: Ledger, R> {
     unstarted: Option<u64>,
     ending: Ending,
     // So often it doesn't wait.
-    soon: u32,
+    soon: usize,
     // How many milliseconds it waits next, at most.
     pause: u64,
     // How many events of children came in a row.
@@ -144,17 +147,13 @@ impl<
         self.tell()
     }
 
-    // Hears the next order. Once a quiet end was ordered no further client is accepted.
+    // Hears the next order. Once an end was ordered no further client is accepted.
     fn take_order(&mut self)
         ensures { TakesOrder self.old self.new }
     {
-        match self.orders.next_order() {
-            Some(Order::Stop) => self.ending.order(Order::Stop),
-            Some(Order::Drain) => {
-                self.ending.order(Order::Drain);
-                self.sockets.end_listening();
-            }
-            None => {}
+        if let Some(order) = self.orders.next_order() {
+            self.ending.order(order);
+            self.sockets.end_listening();
         }
     }
 
@@ -390,7 +389,7 @@ impl<
         let event = self.children.poll()?;
         self.calm = 0;
         self.pause = pause_after(&event, self.pause);
-        self.soon = soon_after(&event, self.soon);
+        self.soon = soon_after(&event, self.soon, self.children.running());
         self.in_row = self.in_row.saturating_add(1);
         Some(event)
     }
@@ -470,7 +469,7 @@ impl<
         ensures counts { Counts self.old self.new }
     {
         self.pause = pause_for(act, self.pause);
-        self.soon = soon_for(act, self.soon);
+        self.soon = soon_for(act, self.soon, self.children.running());
         self.calm = 0;
         self.children.act(act)
     }
@@ -608,9 +607,9 @@ fn pause_after(event: &Event, pause: u64) -> u64 {
     }
 }
 
-fn soon_after(event: &Event, soon: u32) -> u32 {
+fn soon_after(event: &Event, soon: usize, running: usize) -> usize {
     match event {
-        Event::ChildEof { .. } | Event::ChildBroken { .. } => SOON,
+        Event::ChildEof { .. } | Event::ChildBroken { .. } => soon_beside(running),
         _ => soon,
     }
 }
@@ -623,11 +622,16 @@ fn pause_for(act: &Act, pause: u64) -> u64 {
     }
 }
 
-fn soon_for(act: &Act, soon: u32) -> u32 {
+fn soon_for(act: &Act, soon: usize, running: usize) -> usize {
     match act {
-        Act::Kill { .. } => SOON,
+        Act::Kill { .. } => soon_beside(running),
         _ => soon,
     }
+}
+
+// How often there is no wait where so many children run.
+fn soon_beside(running: usize) -> usize {
+    (LOOKS / running.max(1)).clamp(1, SOON)
 }
 
 fn acted(done: Result<(), NoMemory>) -> Acted

@@ -5,11 +5,11 @@ ghost use Rattle.host_base.specs.Outsides.{Rose};
 use super::{Listening, Refused, StdinOrders, Told};
 use child_edge::SpawnFault;
 use edge_loop::{Maker, Parts};
-use host_base::{NoMemory, Site, Text};
+use host_base::{Site, Text};
 use host_trace::EnterFault;
 use loop_bell::Bell;
 use net_sockets::{Listener, NetFault, NetPorts, Network};
-use pipe_pump::{Tap, rings};
+use pipe_pump::rings;
 use std::alloc::Global;
 use std::io::Stdin;
 use std::net::Net;
@@ -30,7 +30,7 @@ const IDLE: usize = 64;
 const KEPT: usize = 1_048_576;
 
 /// Makes real loops: a listener that they share, and for each its sockets, and programs of the system whose pumps wake
-/// it. The first of them reads the orders on standard input.
+/// it. A pump of the first of them reads the orders on standard input.
 #[derive(Drop)]
 pub struct NetMaker<R, T> {
     rt: R,
@@ -39,7 +39,8 @@ pub struct NetMaker<R, T> {
     // What starts threads, one for each loop.
     starters: Vec<T>,
     input: Option<Stdin>,
-    told: Arc<Told>,
+    // Once the first loop was made.
+    told: Option<Arc<Told>>,
     // Where it listens.
     address: Option<Text>,
     listener: Option<Listener>,
@@ -47,23 +48,23 @@ pub struct NetMaker<R, T> {
 }
 
 impl<R: Net + Clock + Copy + Drop, T: StartThread + Drop> NetMaker<R, T> {
-    ghost use Rattle.std.specs.Prelude.{◌≡◌, IfOk};
+    ghost use Rattle.std.specs.Prelude.{◌≡◌};
 
     /// It makes as many loops as there are starters of threads. Nothing is listened at yet.
-    pub fn new(rt: R, alloc: Global, starters: Vec<T>, input: Stdin) -> Result<Self, NoMemory>
-        ensures { IfOk result (λ maker. maker.faults ≡ 0) }
+    pub fn new(rt: R, alloc: Global, starters: Vec<T>, input: Stdin) -> Self
+        ensures { result.faults ≡ 0 }
     {
-        Ok(NetMaker {
+        NetMaker {
             rt,
             alloc,
             network: Network::new(rt, alloc),
             starters,
             input: Some(input),
-            told: Arc::new(alloc, Told::new())?,
+            told: None,
             address: None,
             listener: None,
             faults: 0,
-        })
+        }
     }
 }
 
@@ -153,31 +154,40 @@ impl<
     ghost use Rattle.std.specs.Prelude.{◌≡◌, ◌≤◌, IfOk};
     ghost use Rattle.host_base.specs.Outsides.{Rose};
 
-    // The orders of one more loop. The first reads them, by a pump whose end is of no use.
+    // The orders of one more loop. With the first they begin to be read.
     fn orders(&mut self, spawner: &mut StdSpawner<R, T>) -> Result<StdinOrders, EnterFault>
         ensures grown { self.old.faults ≤ self.new.faults }
         ensures failed { result ≡ Err EnterFault.Failed → Rose self.old.faults self.new.faults }
     {
-        let Ok(told) = Arc::try_clone(&self.told) else {
-            return Err(EnterFault::NoMemory);
+        if let Some(input) = self.input.take() {
+            self.told = Some(self.read(spawner, input)?);
+        }
+        let Some(told) = &self.told else {
+            return Err(self.fail());
         };
-        let Some(input) = self.input.take() else {
-            return Ok(StdinOrders::of(told));
-        };
-        let tap = self.read(spawner, input)?;
-        Ok(StdinOrders::reading(told, tap))
+        match Arc::try_clone(told) {
+            Ok(told) => Ok(StdinOrders::of(told)),
+            Err(_) => Err(EnterFault::NoMemory),
+        }
     }
 
-    // Begins to read standard input.
-    fn read(&mut self, spawner: &mut StdSpawner<R, T>, input: Stdin) -> Result<Tap, EnterFault>
+    // Begins to read standard input, by a pump whose end is of no use.
+    fn read(
+        &mut self,
+        spawner: &mut StdSpawner<R, T>,
+        input: Stdin,
+    ) -> Result<Arc<Told>, EnterFault>
         ensures grown { self.old.faults ≤ self.new.faults }
         ensures failed { result ≡ Err EnterFault.Failed → Rose self.old.faults self.new.faults }
     {
         let Ok((ring, tap)) = rings(self.alloc, RING) else {
             return Err(EnterFault::NoMemory);
         };
+        let Ok(told) = Arc::new(self.alloc, Told::new(tap)) else {
+            return Err(EnterFault::NoMemory);
+        };
         match spawner.read_input(input, ring) {
-            Ok(_) => Ok(tap),
+            Ok(_) => Ok(told),
             Err(SpawnFault::Failed) => Err(self.fail()),
             Err(SpawnFault::NoMemory) => Err(EnterFault::NoMemory),
         }

@@ -4,30 +4,41 @@ ghost use Rattle.edge_loop.specs.Orders.{OrdersTold, told_after};
 
 use super::OrderLine;
 use edge_loop::{Order, Orders};
-use host_base::NoMemory;
 use pipe_pump::Tap;
 use std::alloc::Global;
-use std::sync::Arc;
 use std::sync::atomic::{AtomicBool, Ordering};
+use std::sync::{Arc, Mutex};
 
 // How many bytes are read at a time, and how often at a look.
 const PIECE: usize = 64;
 
 const PIECES: u32 = 16;
 
-/// What was ordered, for all loops.
+/// What was ordered, for all loops. Each of them reads what has come, unless another does just then, so an order is heard
+/// as long as any of them runs.
 #[derive(Drop)]
 pub struct Told {
     stop: AtomicBool,
     drain: AtomicBool,
+    reader: Mutex<Reader>,
 }
 
 impl Told {
-    /// Nothing was.
-    pub fn new() -> Self {
+    /// Nothing was, and the pump of this tap reads what will be.
+    pub fn new(tap: Tap) -> Self {
         Told {
             stop: AtomicBool::new(false),
             drain: AtomicBool::new(false),
+            reader: Mutex::new(Reader {
+                tap,
+                line: OrderLine::new(),
+            }),
+        }
+    }
+
+    fn read(&self) {
+        if let Some(mut reader) = self.reader.try_lock() {
+            reader.read(self);
         }
     }
 
@@ -47,7 +58,7 @@ impl Told {
     }
 }
 
-/// What the one loop that reads standard input has of it.
+/// What reads standard input.
 #[derive(Drop)]
 struct Reader {
     tap: Tap,
@@ -80,7 +91,6 @@ impl Reader {
 #[derive(Drop)]
 pub struct StdinOrders {
     told: Arc<Told>,
-    reader: Option<Reader>,
     // What this loop was told.
     stop: bool,
     drain: bool,
@@ -89,38 +99,14 @@ pub struct StdinOrders {
 impl StdinOrders {
     ghost use Rattle.std.specs.Prelude.{◌≡◌, false};
 
-    /// Those of a loop which is told what another loop reads.
+    /// Those of a loop which was told nothing.
     pub fn of(told: Arc<Told>) -> Self
         ensures none { (result.stop ≡ false) × (result.drain ≡ false) }
     {
         StdinOrders {
             told,
-            reader: None,
             stop: false,
             drain: false,
-        }
-    }
-
-    /// Those of the loop that reads the bytes of a pump.
-    pub fn reading(told: Arc<Told>, tap: Tap) -> Self
-        ensures none { (result.stop ≡ false) × (result.drain ≡ false) }
-    {
-        StdinOrders {
-            told,
-            reader: Some(Reader {
-                tap,
-                line: OrderLine::new(),
-            }),
-            stop: false,
-            drain: false,
-        }
-    }
-
-    fn read(&mut self)
-        ensures { (self.new.stop ≡ self.old.stop) × (self.new.drain ≡ self.old.drain) }
-    {
-        if let Some(reader) = &mut self.reader {
-            reader.read(&self.told);
         }
     }
 }
@@ -129,7 +115,7 @@ impl Orders for StdinOrders {
     ghost told = { λ o. record { stop = o.stop; drain = o.drain } };
 
     fn next_order(&mut self) -> Option<Order> {
-        self.read();
+        self.told.read();
         if !self.stop && self.told.is_stop() {
             self.stop = true;
             return Some(Order::Stop);

@@ -9,8 +9,8 @@ use super::share::Share;
 use super::{Listener, TcpSocket};
 use host_base::{Peer, Text};
 use loop_bell::Bell;
+use mio::Token;
 use mio::net::TcpStream;
-use mio::{Interest, Token};
 use socket_set::{Arrival, Ports, Ready};
 use std::alloc::{AllocError, Global};
 use std::io;
@@ -151,13 +151,8 @@ impl<R: Clock> Ports for NetPorts<R> {
     }
 
     fn watch(&mut self, socket: &mut TcpSocket, c: u64, room: bool) -> bool {
-        let interest = if room {
-            Interest::READABLE | Interest::WRITABLE
-        } else {
-            Interest::READABLE
-        };
         let is_new = !socket.is_watched();
-        let watched = socket.watch(self.poll.registry(), Token(c as usize), interest);
+        let watched = socket.watch(self.poll.registry(), Token(c as usize), room);
         if watched.is_err() {
             self.count();
             return false;

@@ -18,6 +18,8 @@ use std::net::Shutdown;
 pub struct TcpSocket {
     stream: TcpStream,
     watched: bool,
+    // Its room for bytes is reported as well as what comes.
+    room_watched: bool,
     // The last read found that nothing has come, and the last write took nothing.
     dry: bool,
     full: bool,
@@ -33,6 +35,7 @@ impl TcpSocket {
         TcpSocket {
             stream,
             watched: false,
+            room_watched: false,
             dry: false,
             full: false,
             ended: false,
@@ -47,20 +50,18 @@ impl TcpSocket {
         self.watched
     }
 
-    // Registers it, or registers it anew for more.
-    pub(crate) fn watch(
-        &mut self,
-        registry: &Registry,
-        token: Token,
-        interest: Interest,
-    ) -> io::Result<()>
+    // Registers it, with its room for bytes where `room`. It is registered anew only for more than before: that reports it
+    // at once where bytes lie in it that nobody asks for, and would do so again each time that it is full.
+    pub(crate) fn watch(&mut self, registry: &Registry, token: Token, room: bool) -> io::Result<()>
         ensures { IsSameSocket self.old self.new }
     {
-        if self.watched {
-            return registry.reregister(&mut self.stream, token, interest);
+        if !self.watched {
+            registry.register(&mut self.stream, token, interest(room))?;
+        } else if room && !self.room_watched {
+            registry.reregister(&mut self.stream, token, interest(room))?;
         }
-        registry.register(&mut self.stream, token, interest)?;
         self.watched = true;
+        self.room_watched |= room;
         Ok(())
     }
 
@@ -145,6 +146,14 @@ impl Socket for TcpSocket {
 
     fn end_sending(&mut self) {
         self.end();
+    }
+}
+
+fn interest(room: bool) -> Interest {
+    if room {
+        Interest::READABLE | Interest::WRITABLE
+    } else {
+        Interest::READABLE
     }
 }
 

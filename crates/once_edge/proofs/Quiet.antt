@@ -75,9 +75,6 @@ module _ {K : Type 0} where
   kept_once : (tells : K → KidTells) (a b : List (Row K)) → Each (Rests tells) (kept a) b → kept b ≡ b
   kept_once tells a b g = kept_rest tells (kept a) b (all_kept a) g
 
-  pub children_self : (tells : K → KidTells) (a : List (Row K)) → ChildrenRest tells a a
-  children_self tells a = inl refl
-
   pub children_quiet : (tells : K → KidTells) (a b : List (Row K)) → Each (IsQuietRow tells) (kept a) b → ChildrenRest tells a b
   children_quiet tells a b g = inr (each_stays tells (kept a) b g)
 

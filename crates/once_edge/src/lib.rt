@@ -1,5 +1,5 @@
 //! The outside of one connection over standard input and output, with its children. It sleeps until the client or a
-//! child has something to tell, and is kept waiting by none of them.
+//! child has something to tell. Only a write to the client is waited for, until all of it was taken.
 #![tactic(auto)]
 
 mod asked;

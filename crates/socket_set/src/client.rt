@@ -215,12 +215,23 @@ impl<S: Socket> Client<S> {
         self.outgoing.len().saturating_add(count) <= MOST
     }
 
-    /// It is over. What waits is still sent.
+    /// It is over. What waits is still sent; where nothing does its end is sent at once.
     pub fn shut(&mut self)
         ensures { Shuts self.old self.new }
     {
         self.shut = true;
         self.still = 0;
+        self.end_where_sent();
+    }
+
+    // Sends its own end, once nothing waits.
+    fn end_where_sent(&mut self)
+        ensures { self.new ≡ self.old }
+    {
+        if self.outgoing.is_empty() && !self.ended {
+            self.socket.end_sending();
+            self.ended = true;
+        }
     }
 
     /// It was reported that its socket may have bytes or room for them, or that it failed.
@@ -304,7 +315,7 @@ impl<S: Socket> Client<S> {
             return true;
         }
         if self.shut {
-            return self.outgoing.is_empty() && (!self.ended || self.may_receive);
+            return self.outgoing.is_empty() && self.may_receive;
         }
         self.trouble.is_some() || self.wanted && (self.may_receive && self.is_read() || self.unread)
     }
@@ -345,12 +356,6 @@ impl<S: Socket> Client<S> {
         if !self.outgoing.is_empty() {
             return self.may_send && self.send_rest();
         }
-        if !self.ended {
-            self.socket.end_sending();
-            self.ended = true;
-            self.still = 0;
-            return false;
-        }
         if !self.may_receive {
             return false;
         }
@@ -374,6 +379,7 @@ impl<S: Socket> Client<S> {
             Sent::Took(_) => {
                 self.may_send = true;
                 self.still = 0;
+                self.end_where_sent();
                 false
             }
             Sent::Full => {

@@ -2,7 +2,6 @@
 use Rattle.std.specs.Prelude.{◌≡◌, ℕ, ◌+◌, ◌-◌, ◌*◌, min, Bool, true, false, nat_lt, if◌then◌else◌}
 
 pub record PaceState : Type 0 where
-  pub leaving : Bool
   -- how often it is still asked with no distance
   pub soon : ℕ
   -- the distance to the next ask but one, in microseconds
@@ -12,14 +11,11 @@ pub record PaceState : Type 0 where
 
 -- a child at work: it is asked at once, and then at the longest distance
 abbrev pub at_work : PaceState
-at_work = record { leaving = false; soon = 0; distance = 100000; next = 0 }
+at_work = record { soon = 0; distance = 100000; next = 0 }
 
 -- a child that is to leave: it is asked sixty-four times with no distance, and then at growing ones
 abbrev pub leaving_now : PaceState
-leaving_now = record { leaving = true; soon = 64; distance = 50; next = 0 }
-
-abbrev pub left_after : PaceState → PaceState
-left_after pace = if pace.leaving then pace else leaving_now
+leaving_now = record { soon = 64; distance = 50; next = 0 }
 
 -- the pace after an ask at a time, by a clock whose last time is `most`
 abbrev pub asked_at : ℕ → ℕ → PaceState → PaceState

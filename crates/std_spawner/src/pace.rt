@@ -1,7 +1,7 @@
 // When a child is asked for its exit.
 ghost use Rattle.std.specs.Prelude.{◌≡◌, ◌-◌, ◌<◌, ◌⊎◌, true, false, not, nat_lt};
 ghost use Rattle.std.specs.Duration.{as_nanos, max_nanos};
-ghost use Rattle.std_spawner.specs.Paces.{at_work, left_after, asked_at, IsAskedByClock};
+ghost use Rattle.std_spawner.specs.Paces.{at_work, leaving_now, asked_at, IsAskedByClock};
 
 use std::marker::Model;
 use std::time::{Clock, Duration};
@@ -15,11 +15,11 @@ const LEAST: u64 = 50;
 
 const MOST: u64 = 100_000;
 
-/// While a child is at work it is asked once in the longest distance. Once it is to leave, it is asked at each of the
-/// next looks, and then at distances that grow from the shortest to the longest.
+/// While a child is at work it is asked once in the longest distance. Once it is to leave, as at the end of its output, and
+/// once more where it is killed, it is asked at each of the next looks, and then at distances that grow from the shortest
+/// to the longest.
 #[derive(Drop)]
 pub struct Pace {
-    is_leaving: bool,
     /// How often it is still asked with no distance.
     soon: u64,
     /// Microseconds.
@@ -35,7 +35,7 @@ impl Model for Pace {
 
     ghost Value = { PaceState };
 
-    ghost view = { λ p. record { leaving = p.is_leaving; soon = p.soon; distance = p.distance; next = as_nanos p.next } };
+    ghost view = { λ p. record { soon = p.soon; distance = p.distance; next = as_nanos p.next } };
 
     ghost invariant = { λ p. p.distance ≤ 100000 };
 }
@@ -46,23 +46,19 @@ impl Pace {
         ensures { result ≡ at_work }
     {
         Pace {
-            is_leaving: false,
             soon: 0,
             distance: MOST,
             next: Duration::from_millis(0),
         }
     }
 
-    /// The child is to leave.
+    /// The child is to leave, or is killed.
     pub fn leave(&mut self)
-        ensures { self.new ≡ left_after self.old }
+        ensures { self.new ≡ leaving_now }
     {
-        if !self.is_leaving {
-            self.is_leaving = true;
-            self.soon = SOON;
-            self.distance = LEAST;
-            self.next = Duration::from_millis(0);
-        }
+        self.soon = SOON;
+        self.distance = LEAST;
+        self.next = Duration::from_millis(0);
     }
 
     /// Whether it is to be asked now. Where the clock doesn't tell, it is.
