@@ -110,7 +110,8 @@ memory() {
 # For two seconds the server is woken some ten times a second for each of its loops and for a tick of what it waits
 # for, and no more.
 rests() {
-    local name=$1 most=${2:-50} before begun
+    local name=$1 of=${loops:-1} most=${2:-50} before begun
+    most=$((most * ${of##* }))
     before=$(switches)
     begun=$(ran)
     sleep 2
