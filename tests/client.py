@@ -471,7 +471,7 @@ def over_first(port):
     for it in kept:
         it.send(get("/hi"))
         same("a kept connection", it.reply(), (200, b"hi\n"))
-    begin(port, "/long")
+    busy, _ = begin(port, "/long")
     print("drain", flush=True)
     time.sleep(1)
     ended = 0
@@ -483,6 +483,7 @@ def over_first(port):
             pass
     check(4 <= ended < 16, f"{ended} of 16 kept connections were ended")
     print("stop", flush=True)
+    busy.close()
 
 
 def closed(port, seconds):

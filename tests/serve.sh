@@ -143,8 +143,8 @@ serve
 plays many 8 3
 end_server
 
-# ---- programs that leave others behind, which hold their output: each keeps a thread of the server's, and a loop has no
-# more than 128 of those. Once they have ended, the next program finds their threads, and no more wait than behind others.
+# ---- programs that leave others behind, which hold their output: each keeps a thread of the server's, and with 128 of
+# those a loop starts no program. Once they have ended, the next program finds their threads, and no more wait than behind others.
 if [ -z "$loops" ]; then
     site 'children = 1'
     serve
