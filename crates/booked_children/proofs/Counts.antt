@@ -17,12 +17,6 @@ unkept : (exited input output : Bool) → not (exited && input && output) ≡ fa
 unkept true input output h = refl
 unkept false input output h = h
 
-gone : (passes : Bool) → live true passes ≡ 0
-gone passes = refl
-
-here : (passes : Bool) → live false passes ≡ cond passes 1 0
-here passes = refl
-
 module _ {K : Type 0} where
   -- what is known of a child whose exit is told or not as before
   record Same (r s : Row K) : Type 0 where

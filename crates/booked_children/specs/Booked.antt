@@ -1,5 +1,5 @@
 -- What a loop's children with their tickets answer.
-use Rattle.std.specs.Prelude.{◌≡◌, ◌⊎◌, ℕ, Bool, true, false, ◌&&◌, if◌then◌else◌, ◌==◌, ◌+◌, ◌<◌, ⊤, List, [], count_by}
+use Rattle.std.specs.Prelude.{◌≡◌, ◌⊎◌, ℕ, Bool, true, false, ◌&&◌, if◌then◌else◌, ◌==◌, ◌+◌, ◌<◌, ◌≤◌, ⊤, List, [], count_by}
 use Rattle.host_trace.specs.declared.items.Act.{Act}
 use Rattle.host_trace.specs.declared.items.Act.TheVariants.{Feed, EndInput, WantChild, Kill, Release}
 use Rattle.host_trace.specs.declared.items.Event.{Event}
@@ -8,10 +8,12 @@ use Rattle.host_trace.specs.declared.outside.Acted.{Acted}
 use Rattle.host_trace.specs.declared.outside.Acted.TheVariants.{Done, NoRoom as HasNoRoom}
 use Rattle.child_edge.specs.declared.kid.SpawnFault.{SpawnFault}
 use Rattle.child_edge.specs.declared.kid.SpawnFault.TheVariants.{Failed, NoMemory}
+use Rattle.child_edge.specs.declared.starts.StartCounts.{StartCounts}
 use Rattle.child_edge.specs.Kids.{KidTells}
+use Rattle.child_edge.specs.Starts.{has_started, has_failed, has_wanted}
 use Rattle.child_edge.specs.declared.row.Row.{Row}
 use Rattle.host_base.specs.declared.launch.Launch.{Launch}
-use Rattle.child_edge.specs.Rows.{OnKept, Feeds, Changes, Kills, Releases, StartsRow, want_marks, end_marks, kept, runs}
+use Rattle.child_edge.specs.Rows.{OnKept, Feeds, Changes, Kills, Releases, StartsRow, want_marks, end_marks, is_kept, kept, runs}
 use Rattle.booked_children.specs.declared.tickets.Held.{Held}
 
 -- how many children whose numbers pass a test an event says to have exited
@@ -42,6 +44,12 @@ abbrev pub added : List ℕ → Acted → List ℕ
 added bytes Done = bytes
 added bytes HasNoRoom = []
 
+-- the children, how many may be kept, and how starts of them were answered so far
+pub record BookedState (K : Type 0) : Type 0 where
+  pub rows : List (Row K)
+  pub room : ℕ
+  pub tried : StartCounts
+
 module _ {K : Type 0} where
   -- how many children run whose numbers pass
   abbrev pub running_of : (ℕ → Bool) → List (Row K) → ℕ
@@ -51,18 +59,29 @@ module _ {K : Type 0} where
   pub record HaveTickets (tickets : List Held) (rows : List (Row K)) : Type 0 where
     pub each : (t : ℕ → Bool) → tickets_of t tickets ≡ running_of t rows
 
-  -- no child was started
-  abbrev pub StartsNone : List (Row K) → List (Row K) → Type 0
-  StartsNone rows now = (now ≡ rows) ⊎ (now ≡ kept rows)
+  -- as many children were kept as may be, and none was tried to be started
+  pub record HadNoRoom (old new : BookedState K) : Type 0 where
+    pub full : old.room ≤ count_by is_kept old.rows
+    pub same : new ≡ old
 
-  -- What a start of child k of connection c by a launch is answered with, by what it did to the children, the count of faults and
-  -- the count of full books. NoRoom is told where there was no memory.
-  abbrev pub Begins : (K → KidTells) → ℕ → ℕ → Launch → Event → List (Row K) → List (Row K) → Type 0
-  Begins tells k c launch (Started j) rows now = (j ≡ k) × StartsRow tells k c launch (kept rows) now
-  Begins tells k c launch (StartFailed j) rows now = (j ≡ k) × StartsNone rows now
-  Begins tells k c launch (StartFull j seen) rows now = (j ≡ k) × (now ≡ rows)
-  Begins tells k c launch (NoRoom d) rows now = (d ≡ c) × StartsNone rows now
-  Begins tells k c launch _ rows now = ⊥
+  -- a child was tried to be started, which failed
+  pub record StartFails (old new : BookedState K) : Type 0 where
+    pub tried : new.tried ≡ has_failed old.tried
+    pub rows : new.rows ≡ kept old.rows
+
+  -- .. or for which no memory was found
+  pub record StartWants (old new : BookedState K) : Type 0 where
+    pub tried : new.tried ≡ has_wanted old.tried
+    pub rows : new.rows ≡ kept old.rows
+
+  -- What a start of child k of connection c by a launch is answered with, by what it did to the children and by the count of how their
+  -- starts were answered: the book was asked before it was tried. NoRoom is told where there was no memory.
+  abbrev pub Begins : (K → KidTells) → ℕ → ℕ → Launch → Event → BookedState K → BookedState K → Type 0
+  Begins tells k c launch (Started j) old new = (j ≡ k) × (new.tried ≡ has_started old.tried) × StartsRow tells k c launch (kept old.rows) new.rows
+  Begins tells k c launch (StartFailed j) old new = (j ≡ k) × (HadNoRoom old new ⊎ StartFails old new)
+  Begins tells k c launch (StartFull j seen) old new = (j ≡ k) × (new ≡ old)
+  Begins tells k c launch (NoRoom d) old new = (d ≡ c) × ((new ≡ old) ⊎ StartWants old new)
+  Begins tells k c launch _ old new = ⊥
 
   -- an act on a child changes that one, where it is kept; others change none
   abbrev pub ChildrenDo : (K → KidTells) → Act → Acted → List (Row K) → List (Row K) → Type 0

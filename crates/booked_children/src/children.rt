@@ -91,7 +91,8 @@ impl<S: Spawner + Drop, L: Ledger, R: Wait + Drop> BookedChildren<S, L, R> {
     /// connection, and then `fail` is to tell that the child was not started.
     #[tactic(auto, using(crate::proofs::Matches::have_same, crate::proofs::Matches::have_kept, crate::proofs::Matches::have_more, crate::proofs::Sounds::each_all, crate::proofs::Sounds::all_each))]
     pub fn begin(&mut self, k: u64, c: u64, launch: &Launch) -> Event
-        ensures begins { Begins S.Kid.tells k c launch.now result self.old.set.rows.items self.new.set.rows.items }
+        ensures begins { Begins S.Kid.tells k c launch.now result (record { rows = self.old.set.rows.items; room = self.old.set.cap; tried = self.old.set.counts }) (record { rows = self.new.set.rows.items; room = self.new.set.cap; tried = self.new.set.counts }) }
+        ensures room { self.new.set.cap ≡ self.old.set.cap }
         ensures faults { self.old.faults ≤ self.new.faults }
         ensures full_books { self.old.full ≤ self.new.full }
         ensures failure { told.is_failure result ≡ true → Rose self.old.faults self.new.faults }
@@ -146,6 +147,7 @@ impl<S: Spawner + Drop, L: Ledger, R: Wait + Drop> BookedChildren<S, L, R> {
         ensures faults { self.old.faults ≤ self.new.faults }
         ensures failure { IfSome result (λ event. told.is_failure event ≡ true → Rose self.old.faults self.new.faults) }
         ensures full_books { self.new.full ≡ self.old.full }
+        ensures starts { (self.new.set.cap ≡ self.old.set.cap) × (self.new.set.counts ≡ self.old.set.counts) }
     {
         let BookedChildren {
             rt,
@@ -170,6 +172,7 @@ impl<S: Spawner + Drop, L: Ledger, R: Wait + Drop> BookedChildren<S, L, R> {
         ensures does { ChildrenDo S.Kid.tells act.now result self.old.set.rows.items self.new.set.rows.items }
         ensures room { told.carries_nothing act.now ≡ true → result ≡ Acted.Done }
         ensures counts { (self.new.faults ≡ self.old.faults) × (self.new.full ≡ self.old.full) }
+        ensures starts { (self.new.set.cap ≡ self.old.set.cap) × (self.new.set.counts ≡ self.old.set.counts) }
     {
         match act {
             Act::Feed { k, bytes } => {

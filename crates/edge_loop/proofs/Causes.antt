@@ -99,6 +99,7 @@ module _ {K : Type 0} where
   order_same (Some order) a =
       record {
         limit = refl;
+        room = refl;
         set = record { grown = omega arith; looks = omega arith; waits = omega arith; ports = inl refl };
         children = omega arith;
         full = omega arith;
@@ -112,5 +113,5 @@ module _ {K : Type 0} where
   told_open k c e a b h =
       elim h [
         | inl w ↦ subst (λ x. TellsOpen x a.set) (sym w.1) w.0
-        | inr w ↦ subst (λ x. TellsOpen x a.set) (sym w.0) tt
+        | inr w ↦ subst (λ x. TellsOpen x a.set) (sym w.1) tt
       ]

@@ -7,9 +7,9 @@ use Rattle.socket_set.specs.Sets.{SetState}
 use Rattle.edge_loop.specs.Loops.{LoopState, IsNew, IsFresh, IsSent}
 
 module _ {K : Type 0} where
-  pub is_fresh : (set : SetState) (limit : ℕ) (s : LoopState K) → IsNew set limit s → set.rows ≡ []
+  pub is_fresh : (set : SetState) (room limit : ℕ) (s : LoopState K) → IsNew set room limit s → set.rows ≡ []
       → (set.accepted ≡ 0) × (set.ticked ≡ 0) × (set.faults ≡ 0) → set.listening ≡ true → IsFresh s
-  is_fresh set limit s h none counts on =
+  is_fresh set room limit s h none counts on =
       record {
         nobody = (ap (λ x. x.rows) h.set_is ∙ none, ap (λ x. x.accepted) h.set_is ∙ counts.0, ap (λ x. x.ticked) h.set_is ∙ counts.1);
         listening = ap (λ x. x.listening) h.set_is ∙ on;

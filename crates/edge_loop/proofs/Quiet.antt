@@ -92,11 +92,11 @@ module _ {K : Type 0} where
       ]
 
   due_two : (a b d : LoopState K) → SameDue a b → SameDue b d → SameDue a d
-  due_two a b d g h = record { starts = h.starts ∙ g.starts; unstarted = h.unstarted ∙ g.unstarted }
+  due_two a b d g h = record { starts = h.starts ∙ g.starts; unstarted = h.unstarted ∙ g.unstarted; tried = h.tried ∙ g.tried }
 
   pub quiet_self : (tells : K → KidTells) (a : LoopState K) → IsQuiet tells a a
   quiet_self tells a =
-      record { set = set_self a.set; rows = inl refl; due = record { starts = refl; unstarted = refl }; ending = refl }
+      record { set = set_self a.set; rows = inl refl; due = record { starts = refl; unstarted = refl; tried = refl }; ending = refl }
 
   pub quiet_two : (tells : K → KidTells) (a b d : LoopState K) → IsQuiet tells a b → IsQuiet tells b d → IsQuiet tells a d
   quiet_two tells a b d g h =
@@ -108,12 +108,13 @@ module _ {K : Type 0} where
       }
 
   pub counts_self : (a : LoopState K) → Counts a a
-  counts_self a = record { limit = refl; set = set_counts a.set; children = omega arith; full = omega arith }
+  counts_self a = record { limit = refl; room = refl; set = set_counts a.set; children = omega arith; full = omega arith }
 
   pub counts_two : (a b d : LoopState K) → Counts a b → Counts b d → Counts a d
   counts_two a b d g h =
       record {
         limit = h.limit ∙ g.limit;
+        room = h.room ∙ g.room;
         set = set_counts_two a.set b.set d.set g.set h.set;
         children = omega (arith, g.children, h.children);
         full = omega (arith, g.full, h.full);

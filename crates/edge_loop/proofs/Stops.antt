@@ -50,7 +50,7 @@ module _ {K : Type 0} where
         is_stop = refl;
         set = set_self a.set;
         rows = inl refl;
-        due = record { starts = refl; unstarted = refl };
+        due = record { starts = refl; unstarted = refl; tried = refl };
         first = h.first;
         ending = refl;
         cause = ends_stopped a h.cause;
@@ -60,7 +60,7 @@ module _ {K : Type 0} where
   stop_told tells a b e h = subst (λ w. OfOrder tells Stop a w) (sym e) (told_self tells a h)
 
   counted_stop : (a : LoopState K) → Counted Stop a (stopped a)
-  counted_stop a = record { counts = record { limit = refl; set = (counts_self a).set; children = (counts_self a).children; full = (counts_self a).full }; failure = λ f. cc; full_book = λ f. cc }
+  counted_stop a = record { counts = record { limit = refl; room = refl; set = (counts_self a).set; children = (counts_self a).children; full = (counts_self a).full }; failure = λ f. cc; full_book = λ f. cc }
 
   pub stop_counted : (a b : LoopState K) → b ≡ record a { ending = stopped_by a.ending } → Counted Stop a b
   stop_counted a b e = subst (λ w. Counted Stop a w) (sym e) (counted_stop a)

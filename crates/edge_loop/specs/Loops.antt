@@ -3,18 +3,19 @@ use Rattle.std.specs.Prelude.{◌≡◌, ◌≢◌, ℕ, ◌≤◌, ◌+◌, ◌
 use Rattle.std.specs.List.{All}
 use Rattle.host_base.specs.Outsides.{Rose}
 use Rattle.host_base.specs.declared.launch.Launch.{Launch}
+use Rattle.host_base.specs.declared.limits.Limits.{Limits}
 use Rattle.host_trace.specs.declared.items.Event.{Event}
 use Rattle.host_trace.specs.declared.items.Event.TheVariants.{StartFailed, NoRoom, Tick, Stop}
 use Rattle.host_trace.specs.declared.items.Act.{Act}
 use Rattle.host_trace.specs.declared.items.Act.TheVariants.{WantClient, Write, Shut, Start, Feed, EndInput, WantChild, Kill, Release, Upgrade, Says, CloseWs}
-use Rattle.host_trace.specs.declared.items.Item.{Item}
 use Rattle.host_trace.specs.declared.outside.Acted.{Acted}
 use Rattle.host_trace.specs.declared.outside.Acted.TheVariants.{Done, NoRoom as HasNoRoom}
 use Rattle.host_trace.specs.Told.{is_failure, is_full_book}
 use Rattle.child_edge.specs.Kids.{KidTells}
+use Rattle.child_edge.specs.declared.starts.StartCounts.{StartCounts}
 use Rattle.child_edge.specs.declared.row.Row.{Row}
 use Rattle.child_edge.specs.Rows.{OneSays, Each, Rests, kept, is_kept}
-use Rattle.booked_children.specs.Booked.{Begins, ChildrenDo}
+use Rattle.booked_children.specs.Booked.{BookedState, Begins, ChildrenDo}
 use Rattle.socket_set.specs.Sets.{SetState, Tells, IsQuiet as IsQuietSet, Counted as CountedBySet, Acts as SetActs, clients, is_open_at}
 use Rattle.edge_loop.specs.Orders.{no_end, ticked, ordered_by, stopped_by}
 use Rattle.edge_loop.specs.declared.orders.Order.{Order}
@@ -24,8 +25,10 @@ use Rattle.edge_loop.specs.declared.ending.Ending.{Ending}
 pub record LoopState (K : Type 0) : Type 0 where
   -- the clients
   pub set : SetState
-  -- what is kept of each child
+  -- what is kept of each child, how many may be kept, and how their starts were answered
   pub rows : List (Row K)
+  pub room : ℕ
+  pub tried : StartCounts
   -- the children that are to be started, the first to be asked for first
   pub starts : List Asked
   -- a child that found no memory, until it is told not to have been started
@@ -36,13 +39,6 @@ pub record LoopState (K : Type 0) : Type 0 where
   pub child_faults : ℕ
   -- how many children may run
   pub limit : ℕ
-
--- it tells no trace, and its world none that were given back
-abbrev pub untold : {A : Type 0} → A → Option (List Item)
-untold _ = None
-
-abbrev pub none_given : {A : Type 0} → A → Option (List (List Item))
-none_given _ = None
 
 -- how often something failed
 abbrev pub faults_of : {K : Type 0} → LoopState K → ℕ
@@ -70,10 +66,15 @@ TellsOpen (NoRoom c) set = is_open_at (clients set c) ≡ true
 TellsOpen _ set = ⊤
 
 module _ {K : Type 0} where
-  -- no client, no child, and nothing was ordered
-  pub record IsNew (set : SetState) (limit : ℕ) (s : LoopState K) : Type 0 where
+  -- the children of a loop
+  abbrev pub booked : LoopState K → BookedState K
+  booked s = record { rows = s.rows; room = s.room; tried = s.tried }
+
+  -- no client, no child, and nothing was ordered; so many children may be kept, and so many may run
+  pub record IsNew (set : SetState) (room limit : ℕ) (s : LoopState K) : Type 0 where
     pub set_is : s.set ≡ set
     pub rows : s.rows ≡ []
+    pub room_is : s.room ≡ room
     pub starts : s.starts ≡ []
     pub unstarted : s.unstarted ≡ None
     pub ending : s.ending ≡ no_end
@@ -89,18 +90,25 @@ module _ {K : Type 0} where
     pub ending : s.ending ≡ no_end
     pub counts : (s.set.faults ≡ 0) × (s.full ≡ 0) × (s.child_faults ≡ 0)
 
+  -- as many children may run, and be kept, as the limits say: those of all loops, and one for each connection of the loop
+  pub record IsLimited (limits : Limits) (s : LoopState K) : Type 0 where
+    pub runs : s.limit ≡ limits.children
+    pub kept : s.room ≡ limits.connections
+
   -- nothing of a child was told, and those that are settled may be gone
   abbrev pub ChildrenRest : (K → KidTells) → List (Row K) → List (Row K) → Type 0
   ChildrenRest tells rows now = (now ≡ rows) ⊎ Each (Rests tells) (kept rows) now
 
-  -- what is to be told besides of clients and of children that run is the same
+  -- what is to be told besides of clients and of children that run is the same, and no child was tried to be started
   pub record SameDue (old new : LoopState K) : Type 0 where
     pub starts : new.starts ≡ old.starts
     pub unstarted : new.unstarted ≡ old.unstarted
+    pub tried : new.tried ≡ old.tried
 
   -- counts never fall, and each failure of the ports is counted
   pub record Counts (old new : LoopState K) : Type 0 where
     pub limit : new.limit ≡ old.limit
+    pub room : new.room ≡ old.room
     pub set : CountedBySet old.set new.set
     pub children : old.child_faults ≤ new.child_faults
     pub full : old.full ≤ new.full
@@ -166,9 +174,16 @@ module _ {K : Type 0} where
     pub ending : new.ending ≡ stopped_by old.ending
     pub cause : EndsBy new
 
+  -- What a start is answered with. Where no memory was found for it, and its connection is over, it is told not to have been
+  -- started.
+  abbrev pub Answers : (K → KidTells) → ℕ → ℕ → Launch → Event → LoopState K → LoopState K → Type 0
+  Answers tells k c launch event old new =
+      Begins tells k c launch event (booked old) (booked new)
+      ⊎ ((event ≡ StartFailed k) × (is_open_at (clients old.set c) ≡ false) × Begins tells k c launch (NoRoom c) (booked old) (booked new))
+
   -- a child was tried to be started
   pub record IsBegun (tells : K → KidTells) (asked : Asked) (event : Event) (old new : LoopState K) : Type 0 where
-    pub begins : Begins tells asked.k asked.c asked.launch event old.rows new.rows
+    pub begins : Answers tells asked.k asked.c asked.launch event old new
     pub unstarted : new.unstarted ≡ unstarted_by event asked.k old.unstarted
     pub starts : new.starts ≡ old.starts
     pub set : new.set ≡ old.set
@@ -177,14 +192,15 @@ module _ {K : Type 0} where
   -- no memory was found for child k, which is told of its connection c, or else that it was not started
   abbrev pub ToldNoRoom : ℕ → ℕ → Event → LoopState K → LoopState K → Type 0
   ToldNoRoom k c event old new =
-      ((is_open_at (clients old.set c) ≡ true) × (event ≡ NoRoom c) × (new ≡ record old { unstarted = Some k })) ⊎ ((event ≡ StartFailed k) × (new ≡ record old { child_faults = new.child_faults }))
+      ((is_open_at (clients old.set c) ≡ true) × (event ≡ NoRoom c) × (new ≡ record old { unstarted = Some k }))
+      ⊎ ((is_open_at (clients old.set c) ≡ false) × (event ≡ StartFailed k) × (new ≡ record old { child_faults = new.child_faults }))
 
   -- the first child that was asked for was tried to be started, once all before it were answered
   pub record OfStart (tells : K → KidTells) (event : Event) (old new : LoopState K) : Type 0 where
     pub asked : Asked
     pub answered : old.unstarted ≡ None
     pub first : old.starts ≡ asked ∷ new.starts
-    pub begins : Begins tells asked.k asked.c asked.launch event old.rows new.rows
+    pub begins : Answers tells asked.k asked.c asked.launch event old new
     pub reachable : TellsOpen event old.set
     pub unstarted : new.unstarted ≡ unstarted_by event asked.k old.unstarted
     pub set : new.set ≡ old.set

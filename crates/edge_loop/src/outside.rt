@@ -67,6 +67,8 @@ impl<P: Ports, S: Spawner, O: Orders, L: Ledger, R> Model for NetOutside<P, S, O
         record {
           set = o.sockets;
           rows = o.children.set.rows.items;
+          room = o.children.set.cap;
+          tried = o.children.set.counts;
           starts = o.starts.items;
           unstarted = o.unstarted;
           ending = o.ending;
@@ -110,7 +112,7 @@ impl<
     ) -> Self
         requires rows { children.set.rows.items ≡ [] }
         requires counts { (children.full ≡ 0) × (children.faults ≡ 0) }
-        ensures { IsNew sockets limit result }
+        ensures { IsNew sockets children.set.cap limit result }
     {
         NetOutside {
             rt,

@@ -1,7 +1,7 @@
 // The parts of the ledger: those that no loop has, and those that are given out with a loop and come back.
 ghost use Rattle.std.specs.Prelude.{◌≡◌, ◌+◌, ◌<◌, ◌≤◌, ℕ, IfOk, OnOk, OnErr, All, vec_len, vec_capacity};
 ghost use Rattle.host_base.specs.Outsides.{Rose};
-ghost use Rattle.edge_loop.specs.Loops.{IsFresh, IsHalted, IsSent};
+ghost use Rattle.edge_loop.specs.Loops.{IsLimited, IsFresh, IsHalted, IsSent};
 
 use super::{NetOutside, Orders};
 use booked_children::BookedChildren;
@@ -140,7 +140,7 @@ fn join<P: Ports + Drop, S: Spawner + Drop, O: Orders + Drop, L: Ledger, R: Wait
 ) -> Result<NetOutside<P, S, O, L, R>, EnterFault>
     requires room { 0 < rest.old.parts }
     requires none { rest.old.amount ≡ 0 }
-    ensures limit { IfOk result (λ out. out.limit ≡ limits.now.children) }
+    ensures limits { IfOk result (IsLimited limits.now) }
     ensures fresh { IfOk result IsFresh }
     ensures none { rest.new.amount ≡ 0 }
     ensures ok { OnOk result (rest.new.parts + 1 ≡ rest.old.parts) }
@@ -173,7 +173,7 @@ fn give_one<M: Maker, L: Ledger, R: Wait + Copy + Drop>(
 ) -> Result<NetOutside<M::Ports, M::Spawner, M::Orders, L, R>, EnterFault>
     requires room { 0 < rest.old.parts }
     requires none { rest.old.amount ≡ 0 }
-    ensures limit { IfOk result (λ out. out.limit ≡ limits.now.children) }
+    ensures limits { IfOk result (IsLimited limits.now) }
     ensures fresh { IfOk result IsFresh }
     ensures none { rest.new.amount ≡ 0 }
     ensures ok { OnOk result (rest.new.parts + 1 ≡ rest.old.parts) }
@@ -198,7 +198,7 @@ pub(crate) fn give<M: Maker, L: Ledger, R: Wait + Copy + Drop>(
     requires room { loops ≤ rest.old.parts }
     requires none { rest.old.amount ≡ 0 }
     ensures count { IfOk result (λ outs. vec_len outs ≡ loops) }
-    ensures limit { IfOk result (λ outs. All (λ o. o.limit ≡ limits.now.children) outs.items) }
+    ensures limits { IfOk result (λ outs. All (IsLimited limits.now) outs.items) }
     ensures fresh { IfOk result (λ outs. All IsFresh outs.items) }
     ensures none { rest.new.amount ≡ 0 }
     ensures ok { OnOk result (rest.new.parts + loops ≡ rest.old.parts) }

@@ -1,7 +1,7 @@
 // The world of several loops, whose children are counted in one book.
-ghost use Rattle.std.specs.Prelude.{◌≡◌, ◌+◌, ◌≤◌, ◌⊎◌, IfOk, OnOk, OnErr, IsSome, IsNone, All, vec_len};
+ghost use Rattle.std.specs.Prelude.{◌≡◌, ◌≢◌, ◌+◌, ◌≤◌, ◌⊎◌, true, is_ok, IfOk, OnOk, OnErr, IsSome, IsNone, All, vec_len};
 ghost use Rattle.host_base.specs.Outsides.{Rose};
-ghost use Rattle.edge_loop.specs.Loops.{IsFresh};
+ghost use Rattle.edge_loop.specs.Loops.{IsLimited, IsFresh};
 
 use super::stock::Sixteen;
 use super::{Leaving, Maker, NetOutside, send_all, stock};
@@ -60,6 +60,7 @@ impl<M: Maker, L: Ledger, R: Wait + Copy + Drop> NetWorld<M, L, R> {
         ensures out { self.new.out ≡ self.old.out }
         ensures faults { self.new.faults ≡ self.old.faults }
         ensures open { OnOk result (IsSome self.new.book) }
+        ensures kept { IsSome self.old.book → (is_ok result ≡ true) × (self.new.cap ≡ self.old.cap) }
     {
         if self.book.is_some() {
             return Ok(());
@@ -133,10 +134,11 @@ impl<M: Maker, L: Ledger, R: Wait + Copy + Drop> NetWorld<M, L, R> {
         loops: u32,
     ) -> Result<Vec<NetOutside<M::Ports, M::Spawner, M::Orders, L, R>>, EnterFault>
         ensures count { IfOk result (λ outs. vec_len outs ≡ loops) }
-        ensures limit { IfOk result (λ outs. All (λ o. o.limit ≡ site.now.limits.children) outs.items) }
+        ensures limits { IfOk result (λ outs. All (IsLimited site.now.limits) outs.items) }
         ensures fresh { IfOk result (λ outs. All IsFresh outs.items) }
         ensures ok { OnOk result (self.new.out ≡ self.old.out + loops) }
         ensures err { OnErr result (self.new.out ≡ self.old.out) }
+        ensures another { IsSome self.old.book → self.old.cap ≢ site.now.limits.children → result ≡ Err EnterFault.Failed }
         ensures faults { self.new.faults ≡ self.old.faults }
     {
         if loops > 16 - self.out {
@@ -160,7 +162,7 @@ impl<M: Maker, L: Ledger, R: Wait + Copy + Drop> NetWorld<M, L, R> {
         requires room { self.old.out + loops ≤ 16 }
         requires open { IsSome self.old.book }
         ensures count { IfOk result (λ outs. vec_len outs ≡ loops) }
-        ensures limit { IfOk result (λ outs. All (λ o. o.limit ≡ limits.now.children) outs.items) }
+        ensures limits { IfOk result (λ outs. All (IsLimited limits.now) outs.items) }
         ensures fresh { IfOk result (λ outs. All IsFresh outs.items) }
         ensures ok { OnOk result (self.new.out ≡ self.old.out + loops) }
         ensures err { OnErr result (self.new.out ≡ self.old.out) }
@@ -189,9 +191,9 @@ impl<M: Maker, L: Ledger, R: Wait + Copy + Drop> NetWorld<M, L, R> {
 }
 
 impl<M: Maker, L: Ledger, R: Wait + Copy + Drop> NetWorld<M, L, R> {
-    ghost use Rattle.std.specs.Prelude.{◌≡◌, ◌≤◌, ◌+◌, IfOk, OnOk, OnErr, All, vec_len};
+    ghost use Rattle.std.specs.Prelude.{◌≡◌, ◌≢◌, ◌≤◌, ◌+◌, IfOk, OnOk, OnErr, IsSome, All, vec_len};
     ghost use Rattle.host_base.specs.Outsides.{Rose};
-    ghost use Rattle.edge_loop.specs.Loops.{IsFresh, IsSent};
+    ghost use Rattle.edge_loop.specs.Loops.{IsLimited, IsFresh, IsSent};
 
     /// Gives one outside for each loop, at the address of a site. It fails where the address can't be taken, where
     /// more loops are asked for than the ledger has parts, and where another number of children may run than in the
@@ -202,12 +204,13 @@ impl<M: Maker, L: Ledger, R: Wait + Copy + Drop> NetWorld<M, L, R> {
         loops: u32,
     ) -> Result<Vec<NetOutside<M::Ports, M::Spawner, M::Orders, L, R>>, EnterFault>
         ensures count { IfOk result (λ outs. vec_len outs ≡ loops) }
-        ensures limit { IfOk result (λ outs. All (λ o. o.limit ≡ site.now.limits.children) outs.items) }
+        ensures limits { IfOk result (λ outs. All (IsLimited site.now.limits) outs.items) }
         ensures fresh { IfOk result (λ outs. All IsFresh outs.items) }
         ensures out { OnOk result (self.new.out ≡ self.old.out + loops) }
         ensures err { OnErr result (self.new.out ≡ self.old.out) }
         ensures faults { self.old.faults ≤ self.new.faults }
         ensures failed { result ≡ Err EnterFault.Failed → Rose self.old.faults self.new.faults }
+        ensures another { IsSome self.old.book → self.old.cap ≢ site.now.limits.children → result ≡ Err EnterFault.Failed }
     {
         let entered = self.give(site, loops);
         if let Err(EnterFault::Failed) = &entered {

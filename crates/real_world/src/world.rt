@@ -32,8 +32,10 @@ impl<R, T, K, L: Ledger> RealWorld<R, T, K, L> {
     ghost use Rattle.std.specs.Prelude.{◌≡◌, ◌≤◌};
     ghost use Rattle.host_base.specs.Outsides.{Rose};
 
+    /// A world of which no outside is out: `once` is entered for one connection, `net` for sockets.
     pub fn new(alloc: Global, once: OnceWorld<R, T, K>, net: NetWorld<NetMaker<R, T>, L, R>) -> Self
-        ensures { (result.out ≡ 0) × (result.faults ≡ 0) }
+        ensures those { (result.once ≡ once) × (result.net ≡ net) }
+        ensures none { (result.out ≡ 0) × (result.faults ≡ 0) }
     {
         RealWorld {
             alloc,

@@ -1,6 +1,6 @@
 use Rattle.std.proofs.Common.{rules, ◌≡◌, All}
 use Rattle.std.proofs.lemmas.List.Elements.{All-nil, All-push}
-use Rattle.edge_loop.specs.Loops.{IsFresh, IsSent}
+use Rattle.edge_loop.specs.Loops.{IsLimited, IsFresh, IsSent}
 use Rattle.edge_loop.proofs.Fresh.{all_sent}
 use Rattle.edge_loop.proofs.stock.give.Goals as goal
 
@@ -10,7 +10,7 @@ loop-i-init g c = (
   search rules,
   search rules,
   search rules,
-  rw c.in-Ok.ensures.items (All-nil (λ o. o.limit ≡ c.args.limits.now.children)),
+  rw c.in-Ok.ensures.items (All-nil (IsLimited c.args.limits.now)),
   rw c.in-Ok.ensures.items (All-nil IsFresh),
   search rules,
 )
@@ -21,7 +21,7 @@ loop-i-preserved g c = (
   search rules,
   search rules,
   search rules,
-  rw c.push_reserved.ensures.items (All-push (λ o. o.limit ≡ c.args.limits.now.children) c.loop-i.outs.items c.in-Ok-give_one.out c.loop-i.invariant.4 c.in-Ok-give_one.ensures.limit),
+  rw c.push_reserved.ensures.items (All-push (IsLimited c.args.limits.now) c.loop-i.outs.items c.in-Ok-give_one.out c.loop-i.invariant.4 c.in-Ok-give_one.ensures.limits),
   rw c.push_reserved.ensures.items (All-push IsFresh c.loop-i.outs.items c.in-Ok-give_one.out c.loop-i.invariant.5 c.in-Ok-give_one.ensures.fresh),
   search rules,
 )
