@@ -25,6 +25,8 @@ pub enum Heard<'t> {
     Output(u64, &'t [u8]),
     /// So many bytes `x` of output.
     OutputFill(u64, usize),
+    /// The header of a plain text and so many bytes `x`, in one piece of output.
+    OutputLong(u64, usize),
     OutputEof(u64),
     Broken(u64),
     Took(u64, u64),
@@ -55,6 +57,13 @@ fn filled(alloc: Global, count: usize) -> Result<Bytes, NoMemory> {
     Ok(Bytes::from_vec(vec![in alloc; b'x'; count]?))
 }
 
+fn filled_behind(alloc: Global, front: &[u8], count: usize) -> Result<Bytes, NoMemory> {
+    let mut bytes = Bytes::from_slice(alloc, front)?;
+    let more = filled(alloc, count)?;
+    bytes.extend_from_slice(more.as_slice())?;
+    Ok(bytes)
+}
+
 // The bytes that are brought; none where nothing is.
 fn brought(alloc: Global, heard: Heard) -> Result<Option<Bytes>, NoMemory> {
     match heard {
@@ -64,6 +73,9 @@ fn brought(alloc: Global, heard: Heard) -> Result<Option<Bytes>, NoMemory> {
         Heard::ClientFill(_, count) | Heard::OutputFill(_, count) | Heard::WsFill(_, count) => {
             Ok(Some(filled(alloc, count)?))
         }
+        Heard::OutputLong(_, count) => {
+            Ok(Some(filled_behind(alloc, b"Content-Type: text/plain\n\n", count)?))
+        }
         _ => Ok(None),
     }
 }
@@ -72,7 +84,9 @@ fn brought(alloc: Global, heard: Heard) -> Result<Option<Bytes>, NoMemory> {
 fn event_with(heard: Heard, bytes: Bytes) -> Event {
     match heard {
         Heard::Client(c, _) | Heard::ClientFill(c, _) => Event::ClientBytes { c, bytes },
-        Heard::Output(k, _) | Heard::OutputFill(k, _) => Event::ChildBytes { k, bytes },
+        Heard::Output(k, _) | Heard::OutputFill(k, _) | Heard::OutputLong(k, _) => {
+            Event::ChildBytes { k, bytes }
+        }
         Heard::WsText(c, _) | Heard::WsFill(c, _) => Event::WsText { c, bytes },
         _ => Event::Stop,
     }
@@ -203,7 +217,19 @@ program = \"/srv/cgi/lines\"
 kind = \"websocket\"
 ";
 
-// Two hosts with a script at the same path, and none for every other name.
+// A script at a path below that of another.
+const NESTED: &str = "version = 1
+
+[[script]]
+path = \"/cgi-bin\"
+program = \"/srv/cgi/all\"
+
+[[script]]
+path = \"/cgi-bin/hello\"
+program = \"/srv/cgi/hello\"
+";
+
+// Two hosts with a script at the same path, of which the second has one more, and none for every other name.
 const HOSTS: &str = "version = 2
 
 [[host]]
@@ -221,6 +247,10 @@ root = \"/srv/b\"
 [[host.script]]
 path = \"/s\"
 program = \"/srv/b/s\"
+
+[[host.script]]
+path = \"/t\"
+program = \"/srv/b/t\"
 ";
 
 fn file(alloc: Global, name: &str, text: &str) -> Result<StoredFile, NoMemory> {
@@ -238,6 +268,7 @@ fn store(alloc: Global) -> Result<MemoryStore, NoMemory> {
         ("narrow", NARROW),
         ("small", SMALL),
         ("short", SHORT),
+        ("nested", NESTED),
         ("hosts", HOSTS),
     ] {
         files.push(file(alloc, name, text)?)?;

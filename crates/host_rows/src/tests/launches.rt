@@ -1,7 +1,7 @@
 // What children are started with and fed.
 use super::drive::Heard::{Accepted, Client, Exited, Output, OutputEof, Started};
 use super::drive::{Heard, runs, world_of};
-use super::lines::{fed, given, launches_of};
+use super::lines::{fed, given, launches_of, words_of_launches};
 use host_base::NoMemory;
 use host_run::Status;
 use host_trace::Item;
@@ -89,7 +89,7 @@ const FORM_LAUNCH: &str = "/srv/cgi/form
     HTTP_PRIORITY=u=0, i
 ";
 
-const CASES: [Case; 8] = [
+const CASES: [Case; 9] = [
     Case {
         site: "site",
         heard: &[Accepted, Client(0, FORM), Started(0)],
@@ -179,6 +179,34 @@ const CASES: [Case; 8] = [
     SERVER_PROTOCOL=HTTP/1.1
     SERVER_SOFTWARE=cgihost/1
     HTTP_HOST=a
+",
+        fed: "",
+    },
+    // The longest path of a script that fits, and what stands behind it.
+    Case {
+        site: "nested",
+        heard: &[
+            Accepted,
+            Client(
+                0,
+                b"GET /cgi-bin/hello/a%20b/?x=1 HTTP/1.1\r\nHost: example.com:8080\r\n\r\n",
+            ),
+        ],
+        launched: "/srv/cgi/hello
+    /srv/cgi
+    GATEWAY_INTERFACE=CGI/1.1
+    PATH_INFO=/a b/
+    PATH_TRANSLATED=/srv/www/a b/
+    QUERY_STRING=x=1
+    REMOTE_ADDR=192.0.2.1
+    REMOTE_HOST=192.0.2.1
+    REQUEST_METHOD=GET
+    SCRIPT_NAME=/cgi-bin/hello
+    SERVER_NAME=example.com
+    SERVER_PORT=8080
+    SERVER_PROTOCOL=HTTP/1.1
+    SERVER_SOFTWARE=cgihost/1
+    HTTP_HOST=example.com:8080
 ",
         fed: "",
     },
@@ -301,6 +329,44 @@ fn is_right<R: Threads + Sync>(rt: &R, alloc: Global, case: &Case) -> Result<boo
 fn children_are_offered_what_the_request_says(rt: HostRuntime) -> Result<(), Fail> {
     for case in &CASES {
         assert!(rt; is_right(&rt, rt.alloc(), case)?, "{}", case.launched);
+    }
+    Ok(())
+}
+
+// A request line, and the words that its script is started with, each in brackets.
+const SEARCHES: [(&str, &str); 9] = [
+    ("GET /cgi-bin/hello?a+b%2Fc", " [a] [b/c]"),
+    ("GET /cgi-bin/hello?%3D", " [=]"),
+    ("GET /cgi-bin/hello?a++b", ""),
+    ("GET /cgi-bin/hello?a=b", ""),
+    ("GET /cgi-bin/hello?", ""),
+    ("GET /cgi-bin/hello?%00", ""),
+    ("GET /cgi-bin/hello?a+%zz", ""),
+    (
+        "GET /cgi-bin/hello?a+a+a+a+a+a+a+a+a+a+a+a+a+a+a+a+a+a+a+a+a+a+a+a+a+a+a+a+a+a+a+a+a+a+a+a+a+a+a+a+a+a+a+a+a+a+a+a+a+a+a+a+a+a+a+a+a+a+a+a+a+a+a+a+a",
+        "",
+    ),
+    ("POST /cgi-bin/hello?a+b", ""),
+];
+
+fn searches<R: Threads + Sync>(
+    rt: &R,
+    alloc: Global,
+    line: &str,
+    words: &str,
+) -> Result<bool, NoMemory> {
+    let request = format!(in alloc; "{line} HTTP/1.1\r\nHost: a\r\nContent-Length: 0\r\n\r\n")?;
+    let mut world = world_of(alloc, &[Accepted, Client(0, request.as_bytes())])?;
+    let status = runs(rt, alloc, &["once", "site"], &mut world)?;
+    let started = words_of_launches(alloc, given(&world))?;
+    let wanted = format!(in alloc; "/srv/cgi/hello{words}")?;
+    Ok(matches!(status, Status::Done) && started.as_str() == wanted.as_str())
+}
+
+#[test]
+fn words_of_a_search_are_arguments(rt: HostRuntime) -> Result<(), Fail> {
+    for (line, words) in SEARCHES {
+        assert!(rt; searches(&rt, rt.alloc(), line, words)?, "{line}");
     }
     Ok(())
 }

@@ -229,6 +229,21 @@ pub fn launches_of(alloc: Global, items: &[Item]) -> Result<String, NoMemory> {
     Ok(text)
 }
 
+/// The programs that are started, each with its arguments in brackets.
+pub fn words_of_launches(alloc: Global, items: &[Item]) -> Result<String, NoMemory> {
+    let mut text = String::new(alloc);
+    for item in items {
+        if let Item::Out(Act::Start { launch, .. }) = item {
+            text.push_str(launch.program.as_str())?;
+            for word in launch.args.as_slice() {
+                let word = format!(in alloc; " [{}]", word.as_str())?;
+                text.push_str(word.as_str())?;
+            }
+        }
+    }
+    Ok(text)
+}
+
 /// What children are fed.
 pub fn fed(alloc: Global, items: &[Item]) -> Result<Vec<u8>, NoMemory> {
     let mut bytes = Vec::new(alloc);

@@ -363,6 +363,18 @@ OutputEof 0
     Write 0: 0\r\n\r\n
     Shut 0 Done
 + SETTLED
+== the same in one piece with its header
++ BEGUN
+OutputLong 0 9000
+    $BEGINS
+    WantChild 0
+Output 0 b
+    Write 0: 1\r\nb\r\n
+    WantChild 0
+OutputEof 0
+    Write 0: 0\r\n\r\n
+    Shut 0 Done
++ SETTLED
 == one that breaks off
 + BEGUN
 Output 0 $HEADER
@@ -399,7 +411,7 @@ OutputEof 0
 
 #[test]
 fn replies_whole_early_and_in_pieces(rt: HostRuntime) -> Result<(), Fail> {
-    has_rows(&rt, rt.alloc(), "once", "site", REPLIES, 31)
+    has_rows(&rt, rt.alloc(), "once", "site", REPLIES, 32)
 }
 
 // ---- local redirects

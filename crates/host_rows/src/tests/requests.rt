@@ -285,6 +285,7 @@ Stop
 
 // Hosts of a site, by the name that a request gives in any letters, or by that of its target.
 const HOSTS: &str = r"
+NOT_FOUND = Write 0: HTTP/1.1 404 Not Found\r\nContent-Type: text/plain\r\nContent-Length: 24\r\n\r\nno script for this path\n
 NOT_THIS_HOST = Write 0: HTTP/1.1 421 Misdirected Request\r\nContent-Type: text/plain\r\nContent-Length: 16\r\n\r\nhost not served\n
 == a host that is not served, whatever the path, and one that is
 Accepted
@@ -295,6 +296,23 @@ Client 0 GET /s HTTP/1.1\r\nHost: c.example\r\n\r\nGET /%zz HTTP/1.1\r\nHost: ex
     WantClient 0
 Client 0 GET /s HTTP/1.1\r\nHost: B.EXAMPLE:8080\r\nConnection: close\r\n\r\n
     Start 0 (0, 2, 0) /srv/b/s
+Started 0
+    EndInput 0
+    WantChild 0
+Output 0 $OUTPUT
+    WantChild 0
+OutputEof 0
+    $WRITE_REPLY
+    Shut 0 Done
++ SETTLED
+== a script of another host alone
+Accepted
+    WantClient 0
+Client 0 GET /t HTTP/1.1\r\nHost: www.a.example\r\n\r\n
+    $NOT_FOUND
+    WantClient 0
+Client 0 GET /t HTTP/1.1\r\nHost: b.example\r\nConnection: close\r\n\r\n
+    Start 0 (0, 1, 0) /srv/b/t
 Started 0
     EndInput 0
     WantChild 0
@@ -322,7 +340,7 @@ OutputEof 0
 
 #[test]
 fn requests_that_are_served_and_refused(rt: HostRuntime) -> Result<(), Fail> {
-    has_rows(&rt, rt.alloc(), "once", "hosts", HOSTS, 2)?;
+    has_rows(&rt, rt.alloc(), "once", "hosts", HOSTS, 3)?;
     has_rows(&rt, rt.alloc(), "once", "site", REQUESTS, 23)
 }
 

@@ -204,6 +204,7 @@ fn of_child<'t>(words: &'t Words) -> Option<Heard<'t>> {
         "StartFull" => Heard::StartFull(k, u32::try_from(words.count).ok()?),
         "Output" => Heard::Output(k, words.bytes.as_slice()),
         "OutputFill" => Heard::OutputFill(k, words.count as usize),
+        "OutputLong" => Heard::OutputLong(k, words.count as usize),
         "OutputEof" => Heard::OutputEof(k),
         "Broken" => Heard::Broken(k),
         "Took" => Heard::Took(k, words.count),
