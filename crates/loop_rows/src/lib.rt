@@ -1,4 +1,4 @@
-//! Tests of the clients of a loop, of its children with their tickets, and of the outsides made of them: over fakes in memory and over
+//! Tests of the children of a loop and their tickets, of its clients, and of the outsides made of them: over fakes in memory and over
 //! real threads. There is no code beside the tests.
 #![tactic(auto)]
 

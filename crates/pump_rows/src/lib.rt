@@ -1,5 +1,5 @@
-//! Tests of pumps, of the children of a loop and of real children: over fakes in memory, over real threads and over programs of the
-//! system. There is no code beside the tests.
+//! Tests of pumps and of real children: over fakes in memory, over real threads and over programs of the system. There is no code
+//! beside the tests.
 #![tactic(auto)]
 
 #[cfg(test)]

@@ -1,4 +1,3 @@
-// What the pumps and the sets of children do over fakes and real threads.
-mod children;
+// What the pumps do over fakes and real threads, and real children over programs of the system.
 mod pumps;
 mod spawner;

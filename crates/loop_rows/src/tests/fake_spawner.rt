@@ -20,6 +20,16 @@ pub struct Plan {
     pub start_fails: bool,
 }
 
+/// Three bytes, and an exit that is asked for three times.
+pub const PLAIN: Plan = Plan {
+    pieces: 3,
+    out_fails: false,
+    in_fails: false,
+    reaps_fail: 0,
+    exits_after: 2,
+    start_fails: false,
+};
+
 /// It starts each kid with this plan.
 #[derive(Drop)]
 pub struct FakeSpawner<R> {

@@ -1,8 +1,10 @@
-// Pipes in memory for the tests.
+// Pipes in memory, and a launch, for the tests.
 ghost use Rattle.std.specs.Prelude.{◌≤◌};
 ghost use Rattle.host_base.specs.Outsides.{Rose};
 
+use host_base::{Launch, NoMemory, Pairs, Text, Texts};
 use pipe_pump::{PipeIn, PipeOut, PipeRead, PipeWrite};
+use std::alloc::Global;
 
 /// A count after one more.
 pub fn one_more(count: u64) -> u64
@@ -10,6 +12,16 @@ pub fn one_more(count: u64) -> u64
     ensures rose { Rose count result }
 {
     count.saturating_add(1)
+}
+
+/// A launch, at which no fake looks.
+pub fn launch(alloc: Global) -> Result<Launch, NoMemory> {
+    Ok(Launch {
+        program: Text::copy_of(alloc, "a")?,
+        dir: Text::copy_of(alloc, "b")?,
+        args: Texts::new(alloc),
+        env: Pairs::new(alloc),
+    })
 }
 
 /// A pipe that gives one piece over and over, and then ends or fails.

@@ -4,10 +4,11 @@ mod maker;
 mod ports;
 
 use super::fake_spawner::FakeSpawner;
+use super::fakes::launch;
 use child_book::{Blank, Ledger};
 use child_edge::Spawner;
 use edge_loop::{NetOutside, NetWorld, Order, Orders};
-use host_base::{Bytes, Docs, Hosts, Launch, Limits, NoMemory, Pairs, Site, Text, Texts};
+use host_base::{Bytes, Docs, Hosts, Limits, NoMemory, Site, Text};
 use host_trace::{Act, Event, Why};
 use maker::FakeMaker;
 use ports::{FakeOrders, FakePorts, Plan};
@@ -49,15 +50,6 @@ fn letter(event: &Event) -> u8 {
         Event::Stop => b'z',
         _ => b'?',
     }
-}
-
-fn launch(alloc: Global) -> Result<Launch, NoMemory> {
-    Ok(Launch {
-        program: Text::copy_of(alloc, "a")?,
-        dir: Text::copy_of(alloc, "b")?,
-        args: Texts::new(alloc),
-        env: Pairs::new(alloc),
-    })
 }
 
 fn push(acts: &mut Vec<Act>, act: Act) -> Result<(), NoMemory> {

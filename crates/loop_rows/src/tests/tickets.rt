@@ -1,24 +1,16 @@
 ghost use Rattle.std.specs.Prelude.{◌≡◌};
 
-use super::fake_spawner::{FakeSpawner, Plan};
+use super::fake_spawner::{FakeSpawner, PLAIN, Plan};
+use super::fakes::launch;
 use booked_children::BookedChildren;
 use child_book::{Blank, Book, Ledger};
 use child_edge::{ChildSet, Spawner};
-use host_base::{Bytes, Launch, NoMemory, Pairs, Text, Texts};
+use host_base::{Bytes, NoMemory};
 use host_trace::{Act, Event};
 use std::alloc::Global;
 use std::marker::Brand;
 use std::sync::{Arc, Mutex, Wait};
 use std::test::Fail;
-
-fn launch(alloc: Global) -> Result<Launch, NoMemory> {
-    Ok(Launch {
-        program: Text::copy_of(alloc, "a")?,
-        dir: Text::copy_of(alloc, "b")?,
-        args: Texts::new(alloc),
-        env: Pairs::new(alloc),
-    })
-}
 
 // What an event is, by a letter.
 fn letter(event: &Event) -> u8 {
@@ -108,15 +100,6 @@ fn run_children<L: Ledger, R: Wait + Copy + Drop>(
         left,
     })
 }
-
-const PLAIN: Plan = Plan {
-    pieces: 3,
-    out_fails: false,
-    in_fails: false,
-    reaps_fail: 0,
-    exits_after: 2,
-    start_fails: false,
-};
 
 // A book of one child.
 #[test]

@@ -95,7 +95,7 @@ fn pumps_in<R: Wait>(
     Ok(
         filled
             && ended == end
-            && pipe.taken.as_slice().starts_with(taken)
+            && pipe.taken.as_slice() == taken
             && pipe.faults == u64::from(fails_at < 9)
             && pipe.is_finished == (fails_at == 9),
     )
@@ -105,7 +105,7 @@ fn pumps_in<R: Wait>(
 fn what_is_fed_is_taken_by_the_pipe(rt: HostRuntime) -> Result<(), Fail> {
     // (the pipe fails at the write of this number, the end of the pump, what the pipe took)
     let rows: [(u32, PumpEnd, &[u8]); 3] = [
-        (9, PumpEnd::AtEnd, b"abc"),
+        (9, PumpEnd::AtEnd, b"abcd"),
         (1, PumpEnd::Broken, b"ab"),
         (0, PumpEnd::Broken, b""),
     ];

@@ -1,25 +1,12 @@
 ghost use Rattle.std.specs.Prelude.{◌<◌, IfOk};
 ghost use Rattle.child_edge.specs.Rows.{AllSound};
 
-mod fake_kid;
-mod fake_spawner;
-mod fakes;
-
-use child_edge::*;
-use fake_spawner::{FakeSpawner, Plan};
-use host_base::{Launch, NoMemory, Pairs, Text, Texts};
+use super::fake_spawner::{FakeSpawner, PLAIN, Plan};
+use super::fakes::launch;
+use child_edge::{ChildSet, SpawnFault, Spawner};
 use host_trace::Event;
 use std::alloc::{AllocError, Global};
 use std::test::Fail;
-
-fn launch(alloc: Global) -> Result<Launch, NoMemory> {
-    Ok(Launch {
-        program: Text::copy_of(alloc, "a")?,
-        dir: Text::copy_of(alloc, "b")?,
-        args: Texts::new(alloc),
-        env: Pairs::new(alloc),
-    })
-}
 
 // What an event is, by a letter, and its number.
 fn letter(event: &Option<Event>) -> (u8, u64) {
@@ -53,15 +40,6 @@ fn told_in<S: Spawner + Drop>(
     }
     Ok(letters)
 }
-
-const PLAIN: Plan = Plan {
-    pieces: 3,
-    out_fails: false,
-    in_fails: false,
-    reaps_fail: 0,
-    exits_after: 2,
-    start_fails: false,
-};
 
 // A set of this spawner and of so much room, in which child k was started for connection c.
 fn started<S: Spawner + Drop>(
