@@ -344,6 +344,30 @@ def strays(port, most):
         it.close()
 
 
+def outlives(port):
+    """A program that has closed its output and lives on is killed once it has lingered as long as it may, and then the next
+    request of its connection is answered."""
+    it = Connection(port)
+    it.send(get("/outlives"))
+    status, body = it.reply()
+    same("the status", status, 200)
+    check(not gone(int(body)), "the program was not running behind its reply")
+    it.send(get("/hi"))
+    same("the next request", it.reply(), (200, b"hi\n"))
+    check(gone(int(body)), "the program still runs")
+
+
+def signals(port):
+    """A program starts with no signal blocked, and SIGPIPE ends it."""
+    it = Connection(port)
+    it.send(get("/signals"))
+    status, body = it.reply()
+    same("the status", status, 200)
+    masks = dict(line.split(":\t") for line in body.decode().split("\n") if line)
+    same("what is blocked", int(masks["SigBlk"], 16), 0)
+    check(not int(masks["SigIgn"], 16) >> (signal.SIGPIPE - 1) & 1, "SIGPIPE is ignored")
+
+
 def half_closed(port):
     """A client that ends its sending side behind its request is answered."""
     it = Connection(port)
@@ -422,6 +446,79 @@ def refused(port):
         it = Connection(port)
         it.send(text)
         same(f"{text[:20]!r}", it.head()[0], status)
+
+
+def refused_upload(port):
+    """A client that sends its body, though its length is refused, reads the refusal; and one that sends on and on is cut off
+    behind it."""
+    it = Connection(port)
+    it.send(post("/sum", 17 << 20) + bytes(1 << 20))
+    same("the status", it.head()[0], 413)
+    it.to_end()
+    begun = time.monotonic()
+    try:
+        while True:
+            it.send(bytes(1000))
+            time.sleep(0.05)
+            check(time.monotonic() < begun + 10, "it still takes what is sent")
+    except OSError:
+        check(time.monotonic() > begun + 1, "it was cut off at once")
+
+
+def full(port):
+    """Where two connections are held, as many as may be, the next waits until one of them has left."""
+    held = [Connection(port) for _ in range(2)]
+    for it in held:
+        it.send(get("/hi"))
+        same("a connection", it.reply(), (200, b"hi\n"))
+    third = Connection(port)
+    third.send(get("/hi"))
+    third.socket.settimeout(0.3)
+    try:
+        check(False, f"the third was told {third.more()}")
+    except socket.timeout:
+        pass
+    third.socket.settimeout(SECONDS)
+    held[0].close()
+    same("the third", third.reply(), (200, b"hi\n"))
+
+
+def turned_away(port):
+    """Where the one connection that may be has left and its program still runs, the next client is closed at once; one is
+    served when the program is gone."""
+    it = Connection(port)
+    it.send(get("/outlives", "Connection: close\r\n"))
+    same("the status", it.head()[0], 200)
+    pid = int(it.to_end())
+    same("the next", Connection(port).to_end(), b"")
+    check(not gone(pid), "the program was gone before the next client was closed")
+    await_end(pid, 10)
+    end = time.monotonic() + 10
+    while True:
+        it = Connection(port)
+        try:
+            it.send(get("/hi"))
+            same("one that comes then", it.reply(), (200, b"hi\n"))
+            return
+        except (Wrong, OSError):
+            check(time.monotonic() < end, "nobody is served though the program is gone")
+            time.sleep(0.02)
+
+
+def takes_nothing(port):
+    """Has the server end while a client takes nothing of what is left for it."""
+    it = Connection(port)
+    it.send(get("/zeros"))
+    time.sleep(0.5)
+    print("stop", flush=True)
+    time.sleep(SECONDS)
+
+
+def documents(port):
+    """A folder of documents is not served."""
+    it = Connection(port)
+    it.send(get("/docs/a"))
+    same("its status", it.reply(), (502, b"script could not be started\n"))
 
 
 def idle_ends(port):

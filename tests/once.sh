@@ -463,6 +463,29 @@ shakes 'Upgrade: websocket' 'Connection: Upgrade' 'Sec-WebSocket-Key: dGhlIHNhbX
     'Origin: http://b.example'
 gives 'a handshake from elsewhere' site
 
+# ---- a talk: its client says a text, hears it, and closes; or its input ends without a close
+masked() {
+    printf '\x81\x85\x37\xfa\x21\x3d\x7f\x9f\x4d\x51\x58'
+}
+accepted() {
+    head_of 'HTTP/1.1 101 Switching Protocols' 'Upgrade: websocket' 'Connection: Upgrade' \
+        'Sec-WebSocket-Accept: s3pPLMBiTxaQ9kYGzzhZRbK+xOo='
+    printf '\x81\x05Hello'
+}
+shakes 'Upgrade: websocket' 'Connection: Upgrade' 'Sec-WebSocket-Key: dGhlIHNhbXBsZSBub25jZQ==' 'Sec-WebSocket-Version: 13' \
+    'Origin: http://a.example'
+for how in closed cut_off; do
+    {
+        cat in
+        masked
+        sleep 0.5
+        [ "$how" = cut_off ] || printf '\x88\x82\0\0\0\0\x03\xe8'
+    } | timeout 60 "$program" once site >out 2>err
+    status=$?
+    { accepted; [ "$how" = cut_off ] || printf '\x88\x02\x03\xe8'; } >wanted
+    same "a talk that is $how" 0
+done
+
 # ---- virtual hosts
 script name 'printf "Content-Type: text/plain\n\n%s\n" "$SERVER_NAME"'
 cat >hosts <<END

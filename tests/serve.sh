@@ -39,6 +39,11 @@ done'
 script strays 'sleep 100 &
 printf "Content-Type: text/plain\n\n%s\n" $!
 exec sleep 100'
+script outlives 'printf "Content-Type: text/plain\n\n%s\n" $$
+exec >&-
+exec sleep 60'
+script signals 'printf "Content-Type: text/plain\n\n"
+exec grep "^Sig[BI]" /proc/self/status'
 script open 'printf "Content-Type: text/plain\n\n"
 ls -l /proc/$$/fd'
 
@@ -48,9 +53,10 @@ site() {
     {
         printf 'version = 2\nport = %s\n\n[limits]\n%s\n\n' "$port" "$1"
         printf '[[host]]\nname = "a.example"\naliases = ["www.a.example", "127.0.0.1"]\n'
-        for name in hi query sum echo slow nap long chatty zeros lingers clock strays open; do
+        for name in hi query sum echo slow nap long chatty zeros lingers clock strays outlives signals open; do
             printf '\n[[host.script]]\npath = "/%s"\nprogram = "%s/%s"\n' "$name" "$folder" "$name"
         done
+        printf '\n[[host.documents]]\npath = "/docs"\nroot = "%s"\n' "$folder"
         printf '\n[[host]]\nname = "b.example"\n\n[[host.script]]\npath = "/b"\nprogram = "%s/hi"\n' "$folder"
     } >site
 }
@@ -64,6 +70,24 @@ has() {
     echo "skipped: no $1"
     return 1
 }
+
+# ---- a client that takes nothing of what is left for it is given up after 150 ticks: this goes on beside the rest
+mkdir late
+(
+    cd late || exit
+    site ''
+    serve
+    timeout 60 python3 "$client" takes_nothing "$port" >&9 2>wrong &
+    idler=$!
+    sleep 1
+    begun=$SECONDS
+    ends 'a client that takes nothing' 0 25
+    kill "$idler"
+    took=$((SECONDS - begun))
+    if [ "$took" -ge 13 ]; then ok; else bad "a client that takes nothing was given up after $took s"; fi
+    [ "$failed" = 0 ] && touch given_up
+) &
+late=$!
 
 # ---- it says where it listens, and ordinary clients are answered
 site 'connections = 1024'
@@ -86,6 +110,12 @@ fi
 if has wget; then
     if [ "$(wget -q -T 20 -t 1 -O - "$url/hi")" = hi ]; then ok; else bad 'wget'; fi
 fi
+if has wrk; then
+    wrk -t 2 -c 16 -d 1s "$url/hi" >wrked 2>&1
+    if grep -q ' requests in ' wrked && ! grep -q 'Non-2xx\|Socket errors\| 0 requests in ' wrked; then ok; else bad "wrk: $(tail -n 3 wrked | tr '\n' ' ')"; fi
+fi
+if [ "$(python3 -c 'import sys, urllib.request
+print(urllib.request.urlopen(sys.argv[1], timeout=20).read() + urllib.request.urlopen(sys.argv[2], b"x" * 100000, 20).read()[:32])' "$url/hi" "$url/sum")" = "b'hi\\n$(head -c 100000 /dev/zero | tr '\0' x | md5sum | head -c 32)'" ]; then ok; else bad 'urllib'; fi
 
 # ---- once its programs have exited a loop sleeps little more often than its clock ticks
 if [ -z "$loops" ]; then
@@ -113,6 +143,8 @@ plays reads_late
 plays leaves
 plays half_heads 200
 plays descriptors 50
+plays signals
+plays documents
 rests 'after all these'
 end_server
 
@@ -124,6 +156,7 @@ plays upload chunked 16
 plays echo 8
 plays expects
 plays refused
+plays refused_upload
 rests 'after bodies'
 end_server
 
@@ -153,6 +186,19 @@ if [ -z "$loops" ]; then
     plays kept
     sleep 0.5
     if [ "$(entries task)" -le 66 ]; then ok; else bad "what programs left behind: $(entries task) threads are kept"; fi
+    end_server
+fi
+
+# ---- more connections than may be held; and a program that lives on behind its output
+site 'connections = 2'
+serve
+[ -n "$loops" ] || plays full
+plays outlives
+end_server
+if [ -z "$loops" ]; then
+    site 'connections = 1'
+    serve
+    plays turned_away
     end_server
 fi
 
@@ -274,5 +320,8 @@ if [ "$(entries fd)" -le "$descriptors" ]; then ok; else bad "10,000 requests: $
 if [ "$(memory)" -le $((memory + 1024)) ]; then ok; else bad "10,000 requests: $memory KiB became $(memory)"; fi
 rests 'after 10,000 requests'
 end_server
+
+wait "$late"
+if [ -e late/given_up ]; then ok; else bad 'a client that takes nothing of what is left for it'; fi
 
 count

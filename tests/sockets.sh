@@ -11,6 +11,8 @@ script endless 'exec head -c 70000 /dev/zero'
 script empty 'exec yes ""'
 script pid 'echo $$
 exec cat'
+script stays 'echo $$
+exec sleep 60'
 script many '#!/usr/bin/env python3
 import sys
 for at in range(8192):
@@ -21,7 +23,7 @@ site() {
     {
         printf 'version = 1\nname = "a.example"\nport = %s\n' "$port"
         printf '\n[[script]]\npath = "/cat"\nprogram = "/bin/cat"\nkind = "websocket"\n'
-        for name in lines endless empty pid many; do
+        for name in lines endless empty pid stays many; do
             printf '\n[[script]]\npath = "/%s"\nprogram = "%s/%s"\nkind = "websocket"\n' "$name" "$folder" "$name"
         done
         printf '\n[[script]]\npath = "/picky"\nprogram = "/bin/cat"\nkind = "websocket"\norigins = ["http://a.example"]\n'
@@ -37,6 +39,7 @@ plays lines
 plays fragments
 plays ends
 plays gone
+plays cut_off
 plays unread 65536
 plays unread 262144
 plays full_speed 20000 100

@@ -173,6 +173,18 @@ def gone(port):
             time.sleep(0.02)
 
 
+def cut_off(port):
+    """A client whose end comes without a close frame has failed: its program is killed at once, and doesn't linger, though it
+    doesn't mind the end of its input."""
+    it = Talk(port, "/stays")
+    pid = int(it.next()[2])
+    it.socket.shutdown(socket.SHUT_WR)
+    begun = time.monotonic()
+    while os.path.exists(f"/proc/{pid}"):
+        check(time.monotonic() < begun + 1.2, "the program still runs after 1.2 s")
+        time.sleep(0.02)
+
+
 def full_speed(port, count, size):
     """So many messages of so many bytes go to /bin/cat and come back, in both directions at once and in their order."""
     count, size = int(count), int(size)

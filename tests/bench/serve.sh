@@ -2,10 +2,12 @@
 # Prints how fast the built server is, side by side in one run with lighttpd and its mod_cgi where that is installed, and
 # with a bare loop of spawn, read to the end and wait, which has no network and as many threads as there are clients:
 # small static programs a second for 1, 8 and 64 clients, on a new connection each and on kept ones; MB/s of replies of
-# 8 MiB, and of 1 MiB sent and echoed; and how late the lines of a program are at the client once its reply has begun.
+# 8 MiB, and of 1 MiB sent and echoed; how late the lines of a program are at the client once its reply has begun; and
+# messages a second to /bin/cat and back, over 1 and 50 WebSockets, beside websocketd where that is installed.
 #
 # The aims: 1.4 times lighttpd with one loop and 1.8 with four; 0.75 of the bare loop for 8 clients on kept connections
-# with four; 0.5 of the bare copy for uploads; 2 ms for a line. A number of a busy machine says little. Each is measured
+# with four; 0.5 of the bare copy for uploads; 2 ms for a line; as many messages over one WebSocket as websocketd. A number
+# of a busy machine says little. Each is measured
 # for SECONDS seconds (3), one after the other, in ROUNDS rounds (3), of which the median counts.
 . "$(dirname "$0")/../common.sh"
 . "$root/tests/server.sh"
@@ -114,11 +116,70 @@ int main(int count, char **words) {
     printf("%.1f\n", total / seconds);
 }
 END
+# The WebSocket client: over SOCKETS sockets to PORT, each with one message of 15 bytes under way, for SECONDS seconds. It
+# prints how many messages came back a second.
+cat >talk.c <<'END'
+#include <arpa/inet.h>
+#include <netinet/tcp.h>
+#include <poll.h>
+#include <stdio.h>
+#include <stdlib.h>
+#include <string.h>
+#include <sys/socket.h>
+#include <time.h>
+#include <unistd.h>
+static const char asked[] =
+    "GET /cat HTTP/1.1\r\nHost: 127.0.0.1\r\nUpgrade: websocket\r\nConnection: Upgrade\r\n"
+    "Sec-WebSocket-Version: 13\r\nSec-WebSocket-Key: dGhlIHNhbXBsZSBub25jZQ==\r\n\r\n";
+static const char frame[] = "\x81\x8f\0\0\0\0fifteen letters";
+static double now(void) {
+    struct timespec it;
+    clock_gettime(CLOCK_MONOTONIC, &it);
+    return it.tv_sec + it.tv_nsec / 1e9;
+}
+int main(int count, char **words) {
+    int sockets = atoi(words[2]), at;
+    double seconds = atof(words[3]), end;
+    long heard[64] = {0}, total = 0;
+    struct pollfd all[64];
+    (void)count;
+    for (at = 0; at < sockets; at++) {
+        struct sockaddr_in to = {.sin_family = AF_INET, .sin_port = htons(atoi(words[1]))};
+        char head[4096] = "";
+        int one = 1, it = socket(AF_INET, SOCK_STREAM, 0);
+        to.sin_addr.s_addr = htonl(INADDR_LOOPBACK);
+        if (connect(it, (struct sockaddr *)&to, sizeof to)) return 1;
+        setsockopt(it, IPPROTO_TCP, TCP_NODELAY, &one, sizeof one);
+        if (write(it, asked, sizeof asked - 1) < 0) return 1;
+        for (long length = 0, more; !strstr(head, "\r\n\r\n"); length += more)
+            if ((more = read(it, head + length, 1)) <= 0 || length > 4000) return 1;
+        all[at] = (struct pollfd){it, POLLIN, 0};
+    }
+    end = now() + seconds;
+    for (at = 0; at < sockets; at++)
+        if (write(all[at].fd, frame, 21) != 21) return 1;
+    while (now() < end) {
+        if (poll(all, sockets, 1000) <= 0) return 1;
+        for (at = 0; at < sockets; at++) {
+            char got[4096];
+            long more = all[at].revents ? read(all[at].fd, got, sizeof got) : 0;
+            if (all[at].revents && more <= 0) return 1;
+            // A message that comes back is 17 bytes long.
+            for (heard[at] += more; heard[at] >= 17; heard[at] -= 17) {
+                total++;
+                if (write(all[at].fd, frame, 21) != 21) return 1;
+            }
+        }
+    }
+    printf("%.1f\n", total / seconds);
+}
+END
 mkdir cgi
 for name in small large echo; do
     cc -O2 -static -w -o "cgi/$name" "$name.c" 2>/dev/null || cc -O2 -w -o "cgi/$name" "$name.c"
 done
 cc -O2 -w -pthread -o bare bare.c
+cc -O2 -w -o talk talk.c
 cat >clock <<'END'
 #!/usr/bin/env python3
 import sys, time
@@ -146,6 +207,7 @@ chrt -f -p 10 $$ >/dev/null 2>&1 || true
         printf '\n[[script]]\npath = "/%s"\nprogram = "%s/cgi/%s"\n' "$name" "$folder" "$name"
     done
     printf '\n[[script]]\npath = "/clock"\nprogram = "%s/clock"\n' "$folder"
+    printf '\n[[script]]\npath = "/cat"\nprogram = "/bin/cat"\nkind = "websocket"\n'
 } >site
 light=$(free_port)
 other=
@@ -154,12 +216,20 @@ other=
     printf 'server.modules = ("mod_cgi")\ncgi.assign = ("" => "")\nserver.max-keep-alive-requests = 1000000\n'
     printf 'server.upload-dirs = ("%s")\nserver.errorlog = "%s/light.log"\n' "$folder" "$folder"
 } >light.conf
+talked=
+trap 'end_server; kill $other $talked 2>/dev/null; rm -rf "$folder"' EXIT
 if [ -n "$lighttpd" ]; then
     "$lighttpd" -D -f light.conf >light.said 2>&1 &
     other=$!
-    trap 'end_server; kill "$other"; rm -rf "$folder"' EXIT
 else
     echo 'serve.sh: there is no lighttpd'
+fi
+talks=$(free_port)
+if command -v websocketd >/dev/null; then
+    websocketd --address=127.0.0.1 --port="$talks" --loglevel=fatal /bin/cat >/dev/null 2>&1 &
+    talked=$!
+else
+    echo 'serve.sh: there is no websocketd'
 fi
 
 # Requests a second by so many clients, for a path of the server at a port.
@@ -195,6 +265,20 @@ row() {
     }'
 }
 
+# A row of messages over so many WebSockets.
+row_of_talks() {
+    local name=$1 sockets=$2 _
+    rm -f ours theirs
+    for _ in $(seq "$rounds"); do
+        ./talk "$port" "$sockets" "$seconds" >>ours
+        [ -z "$talked" ] || ./talk "$talks" "$sockets" "$seconds" >>theirs
+    done
+    [ -n "$talked" ] || echo 0 >theirs
+    awk -v name="$name" -v ours="$(median <ours)" -v theirs="$(median <theirs)" 'BEGIN {
+        printf "%-44s %8.0f /s, websocketd %8.0f (%5.2f)\n", name, ours, theirs, theirs ? ours / theirs : 0
+    }'
+}
+
 # All rows, of a server with so many loops.
 measured() {
     local loops=$1 clients
@@ -214,6 +298,9 @@ sys.path.insert(0, sys.argv[2])
 from client import *
 print("lines of a begun reply: half within %.2f ms, nine of ten within %.2f ms (aim: 2)" % lateness(int(sys.argv[1])))' \
         "$port" "$root/tests"
+    for clients in 1 50; do
+        row_of_talks "$loops, $clients WebSockets, messages" "$clients"
+    done
     end_server
 }
 
