@@ -490,6 +490,7 @@ def turned_away(port):
     it.send(get("/outlives", "Connection: close\r\n"))
     same("the status", it.head()[0], 200)
     pid = int(it.to_end())
+    it.close()
     same("the next", Connection(port).to_end(), b"")
     check(not gone(pid), "the program was gone before the next client was closed")
     await_end(pid, 10)

@@ -37,6 +37,7 @@ end_server() {
 # written to descriptor 9.
 start() {
     rm -f orders
+    : >said
     mkfifo orders
     "$program" serve site "$@" <orders >out 2>said &
     server=$!
