@@ -49,6 +49,13 @@ impl Held {
         }
     }
 
+    // Whether it has something to move.
+    fn look(&mut self) -> FeedLook
+        ensures { self.new.mark ≡ self.old.mark }
+    {
+        self.feed.look()
+    }
+
     // Runs it at once: its feed was ended and nothing is left of it.
     #[tactic(auto, using(crate::proofs::Given::end_of))]
     fn run_here<R: Wait>(self, rt: &R) -> PumpDone<ChildInput>
@@ -95,8 +102,27 @@ pub(crate) struct Running {
 }
 
 impl Running {
-    ghost use Rattle.std.specs.Prelude.{◌≡◌};
-    ghost use Rattle.std_spawner.specs.Inputs.{left_of};
+    ghost use Rattle.std.specs.Prelude.{◌≡◌, IfSome};
+    ghost use Rattle.std_spawner.specs.Inputs.{left_of, IsInputEnd};
+
+    // What it left, once it has ended.
+    #[tactic(auto, using(crate::proofs::Given::pumped_end))]
+    fn done(&mut self) -> Option<PumpDone<ChildInput>>
+        ensures end { IfSome result (IsInputEnd self.old.mark.value) }
+        ensures mark { self.new.mark ≡ self.old.mark }
+    {
+        self.pump.done()
+    }
+
+    // Its thread, if that is still there, once it has ended.
+    fn into_worker(self) -> Option<Worker<PumpJob>> {
+        let Running {
+            pump: _,
+            thread,
+            mark: _,
+        } = self;
+        thread.worker()
+    }
 
     // It still runs.
     fn into_left(self) -> Left
@@ -135,38 +161,55 @@ impl Input {
         ensures end { IfOk result (λ done. IfSome done (IsInputEndOf (feed_mark self.old))) }
         ensures mark { (f : FeedRing) → feed_mark self.new ≡ Some f → feed_mark self.old ≡ Some f }
     {
+        match self {
+            Input::Held(held) => match held.look() {
+                FeedLook::Nothing => Ok(None),
+                look => self.move_held(rt, threads, look),
+            },
+            Input::Running(running) => {
+                let done = running.done();
+                if done.is_some() {
+                    self.rest();
+                }
+                Ok(done)
+            }
+            Input::Ended(_) => Ok(None),
+        }
+    }
+
+    // Moves what one that is held has to move: in a thread, or here where its feed was ended with nothing in it.
+    #[tactic(auto, using(crate::proofs::Given::marked, crate::proofs::Given::unmarked))]
+    fn move_held<R: Wait, T: StartThread + Drop>(
+        &mut self,
+        rt: &R,
+        threads: &ThreadPool<T>,
+        look: FeedLook,
+    ) -> Result<Option<PumpDone<ChildInput>>, SpawnFault>
+        ensures end { IfOk result (λ done. IfSome done (IsInputEndOf (feed_mark self.old))) }
+        ensures mark { (f : FeedRing) → feed_mark self.new ≡ Some f → feed_mark self.old ≡ Some f }
+    {
         match mem::replace(self, Input::Ended(None)) {
-            Input::Held(held) => self.look(rt, threads, held),
-            Input::Running(running) => Ok(self.end(running)),
-            Input::Ended(thread) => {
-                *self = Input::Ended(thread);
+            Input::Held(held) => match look {
+                FeedLook::Ended => Ok(Some(held.run_here(rt))),
+                FeedLook::Bytes | FeedLook::Nothing => {
+                    self.begin(threads.take(rt), held)?;
+                    Ok(None)
+                }
+            },
+            other => {
+                *self = other;
                 Ok(None)
             }
         }
     }
 
-    #[tactic(auto, using(crate::proofs::Given::marked, crate::proofs::Given::unmarked))]
-    fn look<R: Wait, T: StartThread + Drop>(
-        &mut self,
-        rt: &R,
-        threads: &ThreadPool<T>,
-        held: Held,
-    ) -> Result<Option<PumpDone<ChildInput>>, SpawnFault>
-        requires { feed_mark self.old ≡ None }
-        ensures end { IfOk result (λ done. IfSome done (IsInputEnd held.mark.value)) }
-        ensures mark { (f : FeedRing) → feed_mark self.new ≡ Some f → held.mark.value ≡ f }
+    // One that has ended has a thread that waits, if that is still there.
+    fn rest(&mut self)
+        ensures { (f : FeedRing) → feed_mark self.new ≡ Some f → feed_mark self.old ≡ Some f }
     {
-        let mut held = held;
-        match held.feed.look() {
-            FeedLook::Nothing => {
-                *self = Input::Held(held);
-                Ok(None)
-            }
-            FeedLook::Bytes => {
-                self.begin(threads.take(rt), held)?;
-                Ok(None)
-            }
-            FeedLook::Ended => Ok(Some(held.run_here(rt))),
+        match mem::replace(self, Input::Ended(None)) {
+            Input::Running(running) => *self = Input::Ended(running.into_worker()),
+            other => *self = other,
         }
     }
 
@@ -186,25 +229,6 @@ impl Input {
             Err(fault) => {
                 *self = Input::Held(held);
                 Err(fault)
-            }
-        }
-    }
-
-    #[tactic(auto, using(crate::proofs::Given::pumped_end))]
-    fn end(&mut self, running: Running) -> Option<PumpDone<ChildInput>>
-        ensures end { IfSome result (IsInputEnd running.mark.value) }
-        ensures mark { (f : FeedRing) → feed_mark self.new ≡ Some f → running.mark.value ≡ f }
-    {
-        let Running { pump, thread, mark } = running;
-        let mut pump = pump;
-        match pump.done() {
-            Some(done) => {
-                *self = Input::Ended(thread.worker());
-                Some(done)
-            }
-            None => {
-                *self = Input::Running(Running { pump, thread, mark });
-                None
             }
         }
     }
