@@ -75,7 +75,7 @@ module _ {K : Type 0} where
     pub rows : new.rows ≡ kept old.rows
 
   -- What a start of child k of connection c by a launch is answered with, by what it did to the children and by the count of how their
-  -- starts were answered: the book was asked before it was tried. NoRoom is told where there was no memory.
+  -- starts were answered. None was tried where the book was full, or where no memory was found to keep a ticket.
   abbrev pub Begins : (K → KidTells) → ℕ → ℕ → Launch → Event → BookedState K → BookedState K → Type 0
   Begins tells k c launch (Started j) old new = (j ≡ k) × (new.tried ≡ has_started old.tried) × StartsRow tells k c launch (kept old.rows) new.rows
   Begins tells k c launch (StartFailed j) old new = (j ≡ k) × (HadNoRoom old new ⊎ StartFails old new)

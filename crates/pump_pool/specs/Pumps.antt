@@ -1,6 +1,6 @@
 -- What a pump was given.
 use Rattle.std.specs.Prelude.{◌≡◌, List, []}
-use Rattle.rtrb.specs.Ring.{sent, received, known_free, IsPair}
+use Rattle.rtrb.specs.Ring.{sent, received, known_items, known_free, IsPair}
 use Rattle.pipe_pump.specs.declared.from_pipe.PumpRing.{PumpRing}
 use Rattle.pipe_pump.specs.declared.feed_ring.FeedRing.{FeedRing}
 use Rattle.pump_pool.specs.declared.hand.Hand.{Hand}
@@ -31,6 +31,13 @@ module _ {P : Type 0} where
 
   abbrev pub handed_in : InPump P → List (Hand FeedRing P)
   handed_in pump = received pump.hand
+
+  -- what came back from it, as far as it was seen, and was not given yet
+  abbrev pub waiting_out : OutPump P → List (Hand PumpRing P)
+  waiting_out pump = known_items pump.hand
+
+  abbrev pub waiting_in : InPump P → List (Hand FeedRing P)
+  waiting_in pump = known_items pump.hand
 
   -- nothing was handed over yet, and there is room for a mark and an end
   abbrev pub IsUnusedOut : OutHands P → Type 0

@@ -105,9 +105,19 @@ impl<P: PipeOut + Drop> Job for InJob<P> {
 }
 
 impl<P: PipeOut + Drop> InPump<P> {
-    ghost use Rattle.std.specs.Prelude.{◌≡◌, ◌<◌, IfSome, OnSome, None, length};
-    ghost use Rattle.pump_pool.specs.Pumps.{feed_of, input_of, handed_in};
+    ghost use Rattle.std.specs.Prelude.{◌≡◌, ◌<◌, IfSome, OnSome, IsSome, None, length, nat_lt};
+    ghost use Rattle.pump_pool.specs.Pumps.{feed_of, input_of, handed_in, waiting_in};
     ghost use Rattle.pump_pool.specs.Pumped.{PumpedIn};
+
+    /// Whether the pump has ended and `done` has not given yet what it left. It doesn't wait, and moves nothing.
+    pub fn has_ended(&mut self) -> bool
+        ensures waiting { result ≡ nat_lt 0 (length (waiting_in self.new)) }
+        ensures ring { feed_of self.new ≡ feed_of self.old }
+        ensures pipe { input_of self.new ≡ input_of self.old }
+        ensures same { handed_in self.new ≡ handed_in self.old }
+    {
+        !self.hand.is_empty()
+    }
 
     /// What the pump left, once it has ended, and only once. It doesn't wait.
     #[tactic(auto, using(crate::proofs::Taken::mark_stays))]
@@ -117,6 +127,7 @@ impl<P: PipeOut + Drop> InPump<P> {
         ensures pipe { input_of self.new ≡ input_of self.old }
         ensures given { OnSome result (1 < length (handed_in self.new)) }
         ensures none { result ≡ None → handed_in self.new ≡ handed_in self.old }
+        ensures waiting { 0 < length (waiting_in self.old) → IsSome result }
         ensures once { 1 < length (handed_in self.old) → result ≡ None }
     {
         match self.hand.pop() {

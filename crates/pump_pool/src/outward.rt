@@ -105,9 +105,19 @@ impl<P: PipeIn + Drop> Job for OutJob<P> {
 }
 
 impl<P: PipeIn + Drop> OutPump<P> {
-    ghost use Rattle.std.specs.Prelude.{◌≡◌, ◌<◌, IfSome, OnSome, None, length};
-    ghost use Rattle.pump_pool.specs.Pumps.{ring_of, output_of, handed_out};
+    ghost use Rattle.std.specs.Prelude.{◌≡◌, ◌<◌, IfSome, OnSome, IsSome, None, length, nat_lt};
+    ghost use Rattle.pump_pool.specs.Pumps.{ring_of, output_of, handed_out, waiting_out};
     ghost use Rattle.pump_pool.specs.Pumped.{PumpedOut};
+
+    /// Whether the pump has ended and `done` has not given yet what it left. It doesn't wait, and moves nothing.
+    pub fn has_ended(&mut self) -> bool
+        ensures waiting { result ≡ nat_lt 0 (length (waiting_out self.new)) }
+        ensures ring { ring_of self.new ≡ ring_of self.old }
+        ensures pipe { output_of self.new ≡ output_of self.old }
+        ensures same { handed_out self.new ≡ handed_out self.old }
+    {
+        !self.hand.is_empty()
+    }
 
     /// What the pump left, once it has ended, and only once. It doesn't wait.
     #[tactic(auto, using(crate::proofs::Taken::mark_stays))]
@@ -117,6 +127,7 @@ impl<P: PipeIn + Drop> OutPump<P> {
         ensures pipe { output_of self.new ≡ output_of self.old }
         ensures given { OnSome result (1 < length (handed_out self.new)) }
         ensures none { result ≡ None → handed_out self.new ≡ handed_out self.old }
+        ensures waiting { 0 < length (waiting_out self.old) → IsSome result }
         ensures once { 1 < length (handed_out self.old) → result ≡ None }
     {
         match self.hand.pop() {

@@ -124,6 +124,13 @@ impl Running {
         thread.worker()
     }
 
+    // Whether it still runs.
+    fn runs(&mut self) -> bool
+        ensures { self.new.mark ≡ self.old.mark }
+    {
+        !self.pump.has_ended()
+    }
+
     // It still runs.
     fn into_left(self) -> Left
         ensures { result ≡ left_of (Input.Running self) }
@@ -150,6 +157,18 @@ impl Input {
     ghost use Rattle.std.specs.Prelude.{◌≡◌, Some, None, IfOk, IfSome};
     ghost use Rattle.std_spawner.specs.Inputs.{feed_mark, left_of, IsInputEnd, IsInputEndOf};
     ghost use Rattle.pipe_pump.specs.declared.feed_ring.FeedRing.{FeedRing};
+
+    /// Whether there is nothing to be done for it now: it has nothing to move, or its thread still runs it, or its end was
+    /// given.
+    pub fn is_quiet(&mut self) -> bool
+        ensures { feed_mark self.new ≡ feed_mark self.old }
+    {
+        match self {
+            Input::Held(held) => matches!(held.look(), FeedLook::Nothing),
+            Input::Running(running) => running.runs(),
+            Input::Ended(_) => true,
+        }
+    }
 
     /// What the pump left, once it has ended, and only once. It doesn't wait. Where there is something to move and no
     /// thread for it, that is told, and tried again at the next look.

@@ -19,6 +19,10 @@ use std::snapshot::Snapshot;
 use std::sync::Wait;
 use std::time::Clock;
 
+// Of so many looks at a child at work one asks the clock whether its exit is to be asked for. With many children a loop
+// looks at each of them for every event of one.
+const SELDOM: u64 = 8;
+
 /// A program that runs or has exited, its pumps and their threads.
 #[derive(Drop)]
 pub struct StdKid<R, T> {
@@ -76,7 +80,7 @@ impl<R: Wait + Clock, T: StartThread + Drop> Kid for StdKid<R, T> {
 
     fn out_done(&mut self) -> Option<PumpDone<ChildOutput>> {
         self.out_looks = one_more(self.out_looks);
-        if self.out_end.is_some() {
+        if self.out_end.is_some() || !self.output.has_ended() {
             return None;
         }
         let done = self.output.done()?;
@@ -91,7 +95,7 @@ impl<R: Wait + Clock, T: StartThread + Drop> Kid for StdKid<R, T> {
 
     fn in_done(&mut self) -> Option<PumpDone<ChildInput>> {
         self.in_looks = one_more(self.in_looks);
-        if self.in_end.is_some() {
+        if self.in_end.is_some() || self.input.is_quiet() {
             return None;
         }
         let done = self.look_input()?;
@@ -123,7 +127,7 @@ impl<R: Wait + Clock, T: StartThread + Drop> Kid for StdKid<R, T> {
         if self.reaped {
             return Reap::Exited;
         }
-        if !self.pace.is_due(&self.rt) {
+        if self.is_passed_over() || !self.pace.is_due(&self.rt) {
             return Reap::Running;
         }
         match self.program.has_exited() {
@@ -137,6 +141,13 @@ impl<R: Wait + Clock, T: StartThread + Drop> Kid for StdKid<R, T> {
                 Reap::Failed
             }
         }
+    }
+}
+
+impl<R, T> StdKid<R, T> {
+    // Whether this look asks not even the clock: it is at work, as its output is open and nobody killed it.
+    fn is_passed_over(&self) -> bool {
+        self.out_end.is_none() && self.kills == 0 && self.reap_looks % SELDOM != 0
     }
 }
 
