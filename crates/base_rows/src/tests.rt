@@ -7,3 +7,4 @@ mod links;
 mod shown;
 mod tables;
 mod types;
+mod values;

@@ -2,6 +2,7 @@
 mod asks;
 mod kid;
 mod numbers;
+mod parts;
 mod plain;
 mod play;
 mod recorder;

@@ -1,7 +1,9 @@
 // What one connection does, step by step.
+mod due;
 mod launches;
 mod long;
 mod memory;
+mod parts;
 mod pieces;
 mod play;
 mod recorder;
@@ -11,18 +13,14 @@ mod script;
 mod talks;
 
 use host_base::NoMemory;
-use play::{Row, row_of, run_row};
+use play::{Row, row_at, run_row};
 use std::alloc::Global;
 use std::process::Abort;
 use std::test::Fail;
 
 // How many rows a table has.
 fn count_of(table: &str) -> usize {
-    let mut count: usize = 0;
-    for _ in table.split("\n== ").skip(1) {
-        count = count.saturating_add(1);
-    }
-    count
+    table.split("\n== ").skip(1).count()
 }
 
 // What a row says that fails, and where; nothing where it does not.
@@ -36,8 +34,8 @@ fn check_row(alloc: Global, row: Row) -> Result<String, NoMemory> {
 
 // The first row of a table that fails, and where; nothing where none does.
 fn check(alloc: Global, table: &str) -> Result<String, NoMemory> {
-    for row in table.split("\n== ").skip(1) {
-        let said = check_row(alloc, row_of(table, row))?;
+    for place in 0..count_of(table) {
+        let said = check_row(alloc, row_at(table, place))?;
         if !said.as_str().is_empty() {
             return Ok(said);
         }

@@ -6,3 +6,4 @@ mod headers;
 mod messages;
 mod replies;
 mod streams;
+mod values;

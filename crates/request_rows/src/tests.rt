@@ -5,4 +5,5 @@ mod heads;
 mod launches;
 mod requests;
 mod scripts;
+mod values;
 mod words;

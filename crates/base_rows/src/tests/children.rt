@@ -4,21 +4,31 @@ use host_base::NoMemory;
 use std::alloc::Global;
 use std::test::Fail;
 
+fn starts(table: &mut Table, k: u64, c: u64) -> bool {
+    if table.owner(k).is_some() {
+        return false;
+    }
+    table.start(k, c).is_ok()
+}
+
+fn marks(table: &mut Table, k: u64, mark: Mark) -> bool {
+    table.mark(k, mark)
+}
+
+fn removes(table: &mut Table, k: u64) -> bool {
+    table.remove_settled(k)
+}
+
 // One call: 0 starts child k for connection k + 100, 1 to 5 mark it, 6 lets go of it.
 fn called(table: &mut Table, call: u8, k: u64) -> bool {
     match call {
-        0 => {
-            if table.owner(k).is_some() {
-                return false;
-            }
-            table.start(k, k.saturating_add(100)).is_ok()
-        }
-        1 => table.mark(k, Mark::Started),
-        2 => table.mark(k, Mark::NotStarted),
-        3 => table.mark(k, Mark::InputEnded),
-        4 => table.mark(k, Mark::OutputEnded),
-        5 => table.mark(k, Mark::Exited),
-        _ => table.remove_settled(k),
+        0 => starts(table, k, k.saturating_add(100)),
+        1 => marks(table, k, Mark::Started),
+        2 => marks(table, k, Mark::NotStarted),
+        3 => marks(table, k, Mark::InputEnded),
+        4 => marks(table, k, Mark::OutputEnded),
+        5 => marks(table, k, Mark::Exited),
+        _ => removes(table, k),
     }
 }
 
@@ -65,22 +75,38 @@ fn owner_of(table: &Table, k: u64) -> u64 {
     }
 }
 
+fn has_settled(table: &Table, k: u64) -> bool {
+    table.settled(k)
+}
+
+fn count_of(table: &Table) -> u32 {
+    table.len()
+}
+
 fn is_row(table: &mut Table, (call, k, answer, owner, settled, held): Row) -> bool {
     called(table, call, k) == answer
         && owner_of(table, k) == owner
-        && table.settled(k) == settled
-        && table.len() == held
+        && has_settled(table, k) == settled
+        && count_of(table) == held
 }
 
 // The first row that goes otherwise; the number of rows where none does.
 fn first_other(alloc: Global) -> Result<usize, NoMemory> {
-    let mut table = Table::new(alloc, 3)?;
+    let mut table = new_table(alloc, 3)?;
+    Ok(first_other_in(&mut table))
+}
+
+fn new_table(alloc: Global, cap: u32) -> Result<Table, NoMemory> {
+    Table::new(alloc, cap)
+}
+
+fn first_other_in(table: &mut Table) -> usize {
     for (place, row) in ROWS.iter().enumerate() {
-        if !is_row(&mut table, *row) {
-            return Ok(place);
+        if !is_row(table, *row) {
+            return place;
         }
     }
-    Ok(ROWS.len())
+    ROWS.len()
 }
 
 #[test]
@@ -89,16 +115,20 @@ fn a_table_of_three(rt: HostRuntime) -> Result<(), Fail> {
     Ok(())
 }
 
+// Whether a child that is free to start finds the table full of so many.
+fn is_full(table: &mut Table, k: u64, held: u32) -> bool {
+    let full = TableFull { held, cap: held };
+    table.owner(k).is_none() && table.start(k, 0) == Err(full)
+}
+
 fn is_full_of_one(alloc: Global) -> Result<bool, NoMemory> {
-    let mut table = Table::new(alloc, 1)?;
-    let first = table.start(4, 0).is_ok();
-    let free = table.owner(5).is_none();
-    Ok(first && free && table.start(5, 0) == Err(TableFull { held: 1, cap: 1 }))
+    let mut table = new_table(alloc, 1)?;
+    Ok(starts(&mut table, 4, 0) && is_full(&mut table, 5, 1))
 }
 
 fn is_full_of_none(alloc: Global) -> Result<bool, NoMemory> {
-    let mut none = Table::new(alloc, 0)?;
-    Ok(none.start(4, 0) == Err(TableFull { held: 0, cap: 0 }))
+    let mut none = new_table(alloc, 0)?;
+    Ok(is_full(&mut none, 4, 0))
 }
 
 #[test]

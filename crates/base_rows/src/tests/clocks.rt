@@ -7,11 +7,15 @@ fn met_at(limit: u32, count: u32) -> u32 {
     let mut deadline = Deadline::after(limit);
     let mut sum = 0u32;
     for number in 1..=count {
-        if deadline.tick() {
+        if ticks(&mut deadline) {
             sum = sum.wrapping_mul(100).wrapping_add(number);
         }
     }
     sum
+}
+
+fn ticks(deadline: &mut Deadline) -> bool {
+    deadline.tick()
 }
 
 // A limit, how many ticks are heard, and the ticks that meet it.
@@ -37,17 +41,21 @@ fn the_tick_with_the_number_meets_the_limit(rt: HostRuntime) {
     are_right(&rt, &MET, is_met);
 }
 
+fn is_over(deadline: &Deadline) -> bool {
+    deadline.is_over()
+}
+
 #[test]
 fn it_is_over_from_that_tick_on(rt: HostRuntime) {
     let mut deadline = Deadline::after(2);
     let heard = [
-        deadline.is_over(),
-        deadline.tick(),
-        deadline.is_over(),
-        deadline.tick(),
-        deadline.is_over(),
-        deadline.tick(),
-        deadline.is_over(),
+        is_over(&deadline),
+        ticks(&mut deadline),
+        is_over(&deadline),
+        ticks(&mut deadline),
+        is_over(&deadline),
+        ticks(&mut deadline),
+        is_over(&deadline),
     ];
     assert_eq!(rt; heard, [false, false, false, true, true, false, true]);
 }

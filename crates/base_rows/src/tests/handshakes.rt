@@ -1,8 +1,7 @@
 // Requests, and what a server owes them by RFC 6455 4.2.1 and 4.2.2.
 use super::tables::are_right_in;
-use host_base::{
-    Bytes, Cause, Field, Fields, Framing, NoMemory, Request, Target, Text, Texts, Version,
-};
+use super::values::{bytes_of, push_field, text_of};
+use host_base::{Bytes, Cause, Fields, Framing, NoMemory, Request, Target, Texts, Version};
 use std::alloc::Global;
 use std::test::Fail;
 use ws_handshake::{Accept, accept_text, check};
@@ -23,12 +22,6 @@ const SAMPLE: &str = "s3pPLMBiTxaQ9kYGzzhZRbK+xOo=";
 // A change of the request: the values that a name has in place of its own.
 type Change<'a> = (&'a str, &'a [&'a str]);
 
-fn put(alloc: Global, fields: &mut Fields, name: &str, value: &str) -> Result<(), NoMemory> {
-    let name = Bytes::from_slice(alloc, name.as_bytes())?;
-    let value = Bytes::from_slice(alloc, value.as_bytes())?;
-    fields.push(Field { name, value })
-}
-
 fn put_all(
     alloc: Global,
     fields: &mut Fields,
@@ -36,20 +29,49 @@ fn put_all(
     values: &[&str],
 ) -> Result<(), NoMemory> {
     for value in values {
-        put(alloc, fields, name, value)?;
+        push_field(alloc, fields, name, value)?;
     }
     Ok(())
+}
+
+// The values that a name has by a change.
+fn changed<'a>(changes: &[Change<'a>], name: &str) -> Option<&'a [&'a str]> {
+    for (changed, values) in changes {
+        if *changed == name {
+            return Some(values);
+        }
+    }
+    None
+}
+
+fn put(
+    alloc: Global,
+    fields: &mut Fields,
+    changes: &[Change],
+    name: &str,
+    value: &str,
+) -> Result<(), NoMemory> {
+    match changed(changes, name) {
+        Some(values) => put_all(alloc, fields, name, values),
+        None => push_field(alloc, fields, name, value),
+    }
 }
 
 fn fields_with(alloc: Global, changes: &[Change]) -> Result<Fields, NoMemory> {
     let mut fields = Fields::new(alloc);
     for (name, value) in FIELDS.iter() {
-        match changes.iter().find(|change| change.0 == *name) {
-            Some(change) => put_all(alloc, &mut fields, name, change.1)?,
-            None => put(alloc, &mut fields, name, value)?,
-        }
+        put(alloc, &mut fields, changes, name, value)?;
     }
     Ok(fields)
+}
+
+fn target_of(alloc: Global) -> Result<Target, NoMemory> {
+    let path = bytes_of(alloc, "/ws")?;
+    Ok(Target {
+        path,
+        query: None,
+        host: None,
+    })
 }
 
 // A method, a version and a framing.
@@ -57,12 +79,8 @@ type Start<'a> = (&'a str, Version, Framing);
 
 fn request_of(alloc: Global, start: Start, changes: &[Change]) -> Result<Request, NoMemory> {
     Ok(Request {
-        method: Bytes::from_slice(alloc, start.0.as_bytes())?,
-        target: Target {
-            path: Bytes::from_slice(alloc, b"/ws")?,
-            query: None,
-            host: None,
-        },
+        method: bytes_of(alloc, start.0)?,
+        target: target_of(alloc)?,
         version: start.1,
         fields: fields_with(alloc, changes)?,
         framing: start.2,
@@ -73,17 +91,35 @@ fn request_of(alloc: Global, start: Start, changes: &[Change]) -> Result<Request
 fn texts_of(alloc: Global, words: &[&str]) -> Result<Texts, NoMemory> {
     let mut texts = Texts::new(alloc);
     for word in words {
-        texts.push(Text::copy_of(alloc, word)?)?;
+        texts.push(text_of(alloc, word)?)?;
     }
     Ok(texts)
 }
 
+fn checked(request: &Request, origins: Option<&Texts>) -> Result<Accept, Cause> {
+    check(request, origins)
+}
+
+fn is_accept(given: &Result<Accept, Cause>, value: &str) -> bool {
+    match given {
+        Ok(accept) => accept.value.as_slice() == value.as_bytes(),
+        Err(_) => false,
+    }
+}
+
+fn is_cause(given: &Result<Accept, Cause>, due: Cause) -> bool {
+    match given {
+        Ok(_) => false,
+        Err(cause) => *cause == due,
+    }
+}
+
 // Whether the check answers so, with these origins taken or, where there are none, any.
 fn is_answered(request: &Request, origins: Option<&Texts>, answer: Result<&str, Cause>) -> bool {
-    match (check(request, origins), answer) {
-        (Ok(accept), Ok(value)) => accept.value.as_slice() == value.as_bytes(),
-        (Err(cause), Err(due)) => cause == due,
-        _ => false,
+    let given = checked(request, origins);
+    match answer {
+        Ok(value) => is_accept(&given, value),
+        Err(due) => is_cause(&given, due),
     }
 }
 
@@ -368,16 +404,19 @@ fn origins_are_judged(rt: HostRuntime) -> Result<(), Fail> {
     are_right_in(&rt, rt.alloc(), &BY_ORIGIN, is_judged_by_origin)
 }
 
+const SWITCHING: &[u8] =
+    b"HTTP/1.1 101 Switching Protocols\r\nUpgrade: websocket\r\nConnection: Upgrade\r\nSec-WebSocket-Accept: s3pPLMBiTxaQ9kYGzzhZRbK+xOo=\r\n\r\n";
+
+fn is_spelled(alloc: Global) -> Result<bool, NoMemory> {
+    let accept = Accept {
+        value: *b"s3pPLMBiTxaQ9kYGzzhZRbK+xOo=",
+    };
+    Ok(accept_text(alloc, &accept)?.as_slice() == SWITCHING)
+}
+
 // The reply of RFC 6455 1.3, without its subprotocol.
 #[test]
 fn accept_texts_are_spelled(rt: HostRuntime) -> Result<(), Fail> {
-    let mut accept = Accept { value: [0; 28] };
-    accept
-        .value
-        .copy_from_slice(b"s3pPLMBiTxaQ9kYGzzhZRbK+xOo=");
-    let text = accept_text(rt.alloc(), &accept)?;
-    let due =
-        b"HTTP/1.1 101 Switching Protocols\r\nUpgrade: websocket\r\nConnection: Upgrade\r\nSec-WebSocket-Accept: s3pPLMBiTxaQ9kYGzzhZRbK+xOo=\r\n\r\n";
-    assert!(rt; text.as_slice() == due.as_slice());
+    assert!(rt; is_spelled(rt.alloc())?);
     Ok(())
 }

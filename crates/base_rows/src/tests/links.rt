@@ -1,6 +1,6 @@
 // Frames of a client, and what a server makes of them (RFC 6455 5 to 7).
 use super::tables::are_right_in;
-use host_base::NoMemory;
+use host_base::{Bytes, NoMemory};
 use std::alloc::Global;
 use std::test::Fail;
 use ws_link::{Link, Linked, Said};
@@ -26,6 +26,10 @@ fn push_frame(bytes: &mut Vec<u8>, first: u8, payload: &[u8]) -> Result<(), NoMe
     bytes.push(first)?;
     push_length(bytes, payload.len())?;
     bytes.extend_from_slice(&KEY)?;
+    push_masked(bytes, payload)
+}
+
+fn push_masked(bytes: &mut Vec<u8>, payload: &[u8]) -> Result<(), NoMemory> {
     for (place, byte) in payload.iter().enumerate() {
         bytes.push(*byte ^ KEY[place % 4])?;
     }
@@ -51,54 +55,104 @@ struct Log {
     over: bool,
 }
 
+impl Log {
+    fn new(alloc: Global) -> Self {
+        Log {
+            words: Vec::new(alloc),
+            sent: Vec::new(alloc),
+            over: false,
+        }
+    }
+
+    // Adds what a link gave, and says whether it may give more.
+    fn takes(&mut self, linked: &Linked) -> Result<bool, NoMemory> {
+        match linked {
+            Linked::Text(text) => self.adds(text.as_slice(), b'|'),
+            Linked::Binary => self.adds(b"", b'#'),
+            Linked::Closed => self.ends(b'.'),
+            Linked::Bad => self.ends(b'!'),
+            Linked::NotYet => Ok(false),
+            Linked::NoMemory => Err(NoMemory),
+        }
+    }
+
+    fn adds(&mut self, text: &[u8], mark: u8) -> Result<bool, NoMemory> {
+        self.words.extend_from_slice(text)?;
+        self.words.push(mark)?;
+        Ok(true)
+    }
+
+    fn ends(&mut self, mark: u8) -> Result<bool, NoMemory> {
+        self.words.push(mark)?;
+        self.over = true;
+        Ok(false)
+    }
+
+    fn add_sent(&mut self, bytes: &[u8]) -> Result<(), NoMemory> {
+        self.sent.extend_from_slice(bytes)?;
+        Ok(())
+    }
+}
+
+fn new_link(alloc: Global, rest: &[u8]) -> Result<Link, NoMemory> {
+    Link::new(alloc, rest)
+}
+
+fn next(link: &mut Link) -> Linked {
+    link.next()
+}
+
+fn take_out(link: &mut Link) -> Bytes {
+    link.take_out()
+}
+
+fn feed(link: &mut Link, piece: &[u8]) -> Result<(), NoMemory> {
+    link.feed(piece)
+}
+
 // Reads up to so many messages.
 fn hear(link: &mut Link, log: &mut Log) -> Result<(), NoMemory> {
     for _ in 0..64 {
-        match link.next() {
-            Linked::Text(text) => {
-                log.words.extend_from_slice(text.as_slice())?;
-                log.words.push(b'|')?;
-            }
-            Linked::Binary => log.words.push(b'#')?,
-            Linked::Closed => {
-                log.words.push(b'.')?;
-                log.over = true;
-                return Ok(());
-            }
-            Linked::Bad => {
-                log.words.push(b'!')?;
-                log.over = true;
-                return Ok(());
-            }
-            Linked::NotYet => return Ok(()),
-            Linked::NoMemory => return Err(NoMemory),
+        if !log.takes(&next(link))? {
+            return Ok(());
         }
     }
     Ok(())
 }
 
 fn step(link: &mut Link, log: &mut Log) -> Result<(), NoMemory> {
-    if !log.over {
-        hear(link, log)?;
-        log.sent.extend_from_slice(link.take_out().as_slice())?;
+    if log.over {
+        return Ok(());
+    }
+    hear(link, log)?;
+    log.add_sent(take_out(link).as_slice())
+}
+
+fn step_on(link: &mut Link, log: &mut Log, bytes: &[u8], size: usize) -> Result<(), NoMemory> {
+    step(link, log)?;
+    for piece in bytes.chunks(size.max(1)) {
+        feed(link, piece)?;
+        step(link, log)?;
     }
     Ok(())
 }
 
 // The first bytes come with the handshake, the others in pieces of `size`.
-fn log_of(alloc: Global, bytes: &[u8], cut: usize, size: usize) -> Result<Log, NoMemory> {
+fn push_log(
+    alloc: Global,
+    log: &mut Log,
+    bytes: &[u8],
+    cut: usize,
+    size: usize,
+) -> Result<(), NoMemory> {
     let (rest, more) = bytes.split_at(cut.min(bytes.len()));
-    let mut log = Log {
-        words: Vec::new(alloc),
-        sent: Vec::new(alloc),
-        over: false,
-    };
-    let mut link = Link::new(alloc, rest)?;
-    step(&mut link, &mut log)?;
-    for piece in more.chunks(size.max(1)) {
-        link.feed(piece)?;
-        step(&mut link, &mut log)?;
-    }
+    let mut link = new_link(alloc, rest)?;
+    step_on(&mut link, log, more, size)
+}
+
+fn log_of(alloc: Global, bytes: &[u8], cut: usize, size: usize) -> Result<Log, NoMemory> {
+    let mut log = Log::new(alloc);
+    push_log(alloc, &mut log, bytes, cut, size)?;
     Ok(log)
 }
 
@@ -116,22 +170,46 @@ fn is_cut_heard(
 // Whether bytes give these words and are answered so, wherever they are cut.
 fn is_heard(alloc: Global, bytes: &[u8], words: &[u8], sent: &[u8]) -> Result<bool, NoMemory> {
     for cut in 0..bytes.len().min(200) + 1 {
-        let in_two = is_cut_heard(alloc, bytes, (cut, bytes.len()), words, sent)?;
-        if !in_two || !is_cut_heard(alloc, bytes, (cut, 1), words, sent)? {
+        if !is_heard_at(alloc, bytes, cut, words, sent)? {
             return Ok(false);
         }
     }
     Ok(true)
 }
 
+fn is_heard_at(
+    alloc: Global,
+    bytes: &[u8],
+    cut: usize,
+    words: &[u8],
+    sent: &[u8],
+) -> Result<bool, NoMemory> {
+    Ok(
+        is_cut_heard(alloc, bytes, (cut, bytes.len()), words, sent)?
+            && is_cut_heard(alloc, bytes, (cut, 1), words, sent)?,
+    )
+}
+
 // Whether this and no more is to be sent.
 fn sends(link: &mut Link, due: &[u8]) -> bool {
-    link.take_out().as_slice() == due && link.take_out().is_empty()
+    gives_out(link, due) && gives_out(link, b"")
+}
+
+fn gives_out(link: &mut Link, due: &[u8]) -> bool {
+    take_out(link).as_slice() == due
+}
+
+fn says(link: &mut Link, text: &str, said: Said) -> bool {
+    link.say(text) == said
+}
+
+fn closes(link: &mut Link, code: u16, said: Said) -> bool {
+    link.close(code) == said
 }
 
 fn sends_hello(alloc: Global) -> Result<bool, NoMemory> {
-    let mut link = Link::new(alloc, b"")?;
-    Ok(link.say("Hello") == Said::Done && sends(&mut link, b"\x81\x05Hello"))
+    let mut link = new_link(alloc, b"")?;
+    Ok(says(&mut link, "Hello", Said::Done) && sends(&mut link, b"\x81\x05Hello"))
 }
 
 // What a client sends, the words that it gives, and what is sent.
@@ -408,13 +486,13 @@ fn due_of(alloc: Global, code: u16, said: Said) -> Result<Vec<u8>, NoMemory> {
 
 // Whether two texts and a close are taken so. Nothing is said behind a close (RFC 6455 5.5.1).
 fn takes(link: &mut Link, code: u16, said: Said) -> bool {
-    let texts = link.say("\u{20ac}") == Said::Done && link.say("") == Said::Done;
-    texts && link.close(code) == said && (said != Said::Done || link.say("a") == Said::Refused)
+    let texts = says(link, "\u{20ac}", Said::Done) && says(link, "", Said::Done);
+    texts && closes(link, code, said) && (said != Said::Done || says(link, "a", Said::Refused))
 }
 
 fn is_closed_so(alloc: Global, (code, said): &(u16, Said)) -> Result<bool, NoMemory> {
     let due = due_of(alloc, *code, *said)?;
-    let mut link = Link::new(alloc, b"")?;
+    let mut link = new_link(alloc, b"")?;
     Ok(takes(&mut link, *code, *said) && sends(&mut link, due.as_slice()))
 }
 

@@ -1,6 +1,7 @@
 // What no clause says: the tables of causes and limits against the texts that they come from, edge cases of
 // the helpers, and that each call that takes memory can succeed.
 use super::tables::are_right;
+use super::values::{push_field, text_of};
 use host_base::*;
 use std::alloc::Global;
 use std::process::Abort;
@@ -180,16 +181,10 @@ fn digits(rt: HostRuntime) {
     are_right(&rt, &DIGITS, is_digit);
 }
 
-fn field(alloc: Global, name: &str, value: &str) -> Result<Field, NoMemory> {
-    let name = Bytes::from_slice(alloc, name.as_bytes())?;
-    let value = Bytes::from_slice(alloc, value.as_bytes())?;
-    Ok(Field { name, value })
-}
-
 fn fields(alloc: Global, lines: &[(&str, &str)]) -> Result<Fields, NoMemory> {
     let mut fields = Fields::new(alloc);
     for (name, value) in lines {
-        fields.push(field(alloc, name, value)?)?;
+        push_field(alloc, &mut fields, name, value)?;
     }
     Ok(fields)
 }
@@ -286,8 +281,8 @@ fn bytes_there_and_back(rt: HostRuntime) -> Result<(), Fail> {
 
 fn texts(alloc: Global) -> Result<Texts, NoMemory> {
     let mut texts = Texts::with_capacity(alloc, 1)?;
-    texts.push(Text::copy_of(alloc, "-v")?)?;
-    texts.push(Text::copy_of(alloc, "")?)?;
+    texts.push(text_of(alloc, "-v")?)?;
+    texts.push(text_of(alloc, "")?)?;
     Ok(texts)
 }
 
@@ -315,8 +310,8 @@ fn texts_there_and_back(rt: HostRuntime) -> Result<(), Fail> {
 }
 
 fn pair(alloc: Global, name: &str, value: &str) -> Result<Pair, NoMemory> {
-    let name = Text::copy_of(alloc, name)?;
-    let value = Text::copy_of(alloc, value)?;
+    let name = text_of(alloc, name)?;
+    let value = text_of(alloc, value)?;
     Ok(Pair { name, value })
 }
 
@@ -327,8 +322,8 @@ fn pairs(alloc: Global) -> Result<Pairs, NoMemory> {
 }
 
 fn launch(alloc: Global) -> Result<Launch, NoMemory> {
-    let program = Text::copy_of(alloc, "/srv/cgi/hello")?;
-    let dir = Text::copy_of(alloc, "/srv/cgi")?;
+    let program = text_of(alloc, "/srv/cgi/hello")?;
+    let dir = text_of(alloc, "/srv/cgi")?;
     let args = texts(alloc)?;
     let env = pairs(alloc)?;
     Ok(Launch {

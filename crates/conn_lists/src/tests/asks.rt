@@ -1,11 +1,16 @@
 // Requests as they are sent, and what they mean.
+mod extras;
+mod refused;
+
 use super::numbers::Numbers;
+use super::parts::Parts;
 use super::roles::{Role, Says, add_deeds, flood_role, role_of};
 use super::site::{
-    BODY_LIMIT, HEAD_LIMIT, NO_SEAT, Place, REDIRECTS, Seat, Target, Whose, seat_at, seat_count,
-    target_at,
+    BODY_LIMIT, NO_SEAT, Place, REDIRECTS, Seat, Target, Whose, seat_at, seat_count, target_at,
 };
-use host_base::{Bytes, Cause, NoMemory};
+use extras::{EXTRAS, Extra, NO_EXTRA, extra_at};
+use host_base::Cause;
+use refused::make_bad;
 use std::alloc::Global;
 
 // How the length of a body is told.
@@ -25,45 +30,10 @@ pub struct Bad {
     pub bare: bool,
 }
 
-// Fields that a script is told of.
-#[derive(Clone, Copy)]
-pub struct Extra {
-    pub sent: &'static str,
-    pub told: &'static str,
-    // Of these, what a script behind a local redirect is told.
-    pub told_later: &'static str,
-}
-
-const NO_EXTRA: Extra = Extra {
-    sent: "",
-    told: "",
-    told_later: "",
-};
-
-static EXTRAS: [Extra; 5] = [
-    NO_EXTRA,
-    NO_EXTRA,
-    Extra {
-        sent: "Cookie: a=1\r\nX-Note:  x \r\ncookie: b=2\r\nX-NOTE: y\r\n",
-        told: "HTTP_COOKIE=a=1; b=2\nHTTP_X_NOTE=x, y\n",
-        told_later: "HTTP_COOKIE=a=1; b=2\nHTTP_X_NOTE=x, y\n",
-    },
-    Extra {
-        sent: "Authorization: z\r\nProxy: p\r\nAccept: */*\r\nX_Y: 1\r\nEmpty:\r\n",
-        told: "HTTP_ACCEPT=*/*\n",
-        told_later: "HTTP_ACCEPT=*/*\n",
-    },
-    Extra {
-        sent: "Sec-WebSocket-Version: 13\r\n",
-        told: "HTTP_SEC_WEBSOCKET_VERSION=13\n",
-        told_later: "",
-    },
-];
-
 // One request.
 #[derive(Drop)]
 pub struct Ask {
-    pub bytes: Bytes,
+    pub bytes: Parts,
     // How many bytes stand before its line, and where its head ends.
     pub lead: usize,
     pub head: usize,
@@ -74,7 +44,7 @@ pub struct Ask {
     pub expects: bool,
     pub sized: Sized,
     pub typed: bool,
-    pub body: Bytes,
+    pub body: Parts,
     pub bad: Option<Bad>,
     pub seat: &'static Seat,
     pub target: &'static Target,
@@ -82,6 +52,8 @@ pub struct Ask {
     pub roles: Vec<Role>,
     // The client waits behind the head until nothing else goes on.
     pub waits: bool,
+    // Memory was wanting for a role.
+    lost: bool,
 }
 
 impl Ask {
@@ -94,6 +66,8 @@ impl Ask {
     }
 }
 
+const NO_ARGS: &[&str] = &[];
+
 fn is_read(method: &str) -> bool {
     method == "GET" || method == "HEAD"
 }
@@ -104,13 +78,13 @@ impl Ask {
         if hop > 0 || is_read(self.method) {
             target.args
         } else {
-            &[]
+            NO_ARGS
         }
     }
 
     fn new(alloc: Global, seat: &'static Seat, target: &'static Target) -> Self {
         Ask {
-            bytes: Bytes::new(alloc),
+            bytes: Parts::new(alloc),
             lead: 0,
             head: 0,
             method: "GET",
@@ -119,77 +93,83 @@ impl Ask {
             expects: false,
             sized: Sized::None,
             typed: false,
-            body: Bytes::new(alloc),
+            body: Parts::new(alloc),
             bad: None,
             seat,
             target,
             extra: &NO_EXTRA,
             roles: Vec::new(alloc),
             waits: false,
+            lost: false,
         }
     }
 
-    fn push(&mut self, text: &str) -> Result<(), NoMemory> {
-        self.bytes.extend_from_slice(text.as_bytes())
+    pub fn is_lost(&self) -> bool {
+        self.lost || self.bytes.is_lost() || self.body.is_lost()
+    }
+
+    fn push(&mut self, text: &str) {
+        self.bytes.push(text);
+    }
+
+    fn push_host(&mut self) {
+        let host = self.seat.value;
+        if host.is_empty() {
+            return;
+        }
+        self.push("Host: ");
+        self.push(host);
+        self.push("\r\n");
     }
 
     // The first line, and the Host field.
-    fn push_line(&mut self) -> Result<(), NoMemory> {
-        let method = self.method;
-        let target = self.target.text;
-        self.push(method)?;
-        self.push(" ")?;
-        self.push(target)?;
+    fn push_line(&mut self) {
+        self.push(self.method);
+        self.push(" ");
+        self.push(self.target.text);
         self.push(if self.old {
             " HTTP/1.0\r\n"
         } else {
             " HTTP/1.1\r\n"
-        })?;
-        let host = self.seat.value;
-        if host.is_empty() {
-            return Ok(());
-        }
-        self.push("Host: ")?;
-        self.push(host)?;
-        self.push("\r\n")
+        });
+        self.push_host();
     }
 
-    fn push_length(&mut self, alloc: Global) -> Result<(), NoMemory> {
+    fn push_length(&mut self) {
         match self.sized {
-            Sized::None => Ok(()),
+            Sized::None => {}
             Sized::Length => {
-                let text = format!(in alloc; "Content-Length: {}\r\n", self.body.len())?;
-                self.push(text.as_str())
+                self.push("Content-Length: ");
+                self.bytes.push_number(self.body.len() as u64);
+                self.push("\r\n");
             }
             Sized::Chunked => self.push("Transfer-Encoding: chunked\r\n"),
         }
     }
 
-    fn push_head(&mut self, alloc: Global, numbers: &mut Numbers) -> Result<(), NoMemory> {
+    fn push_head(&mut self, numbers: &mut Numbers) {
         if self.lead > 0 {
-            self.push("\r\n")?;
+            self.push("\r\n");
         }
-        self.push_line()?;
-        let extra = self.extra.sent;
-        self.push(extra)?;
-        self.push_length(alloc)?;
+        self.push_line();
+        self.push(self.extra.sent);
+        self.push_length();
         if self.typed {
-            self.push("Content-Type: text/plain\r\n")?;
+            self.push("Content-Type: text/plain\r\n");
         }
         if self.expects {
-            self.push("Expect: 100-Continue\r\n")?;
+            self.push("Expect: 100-Continue\r\n");
         }
-        self.push(close_text(numbers, self.close))?;
-        self.push("\r\n")?;
+        self.push(close_text(numbers, self.close));
+        self.push("\r\n");
         self.head = self.bytes.len();
-        Ok(())
     }
 
-    fn push_body(&mut self, alloc: Global, numbers: &mut Numbers) -> Result<(), NoMemory> {
-        if self.sized == Sized::Chunked {
-            return push_chunks(alloc, numbers, &mut self.bytes, self.body.as_slice());
+    fn push_body(&mut self, numbers: &mut Numbers) {
+        match self.sized {
+            Sized::Chunked => push_chunks(numbers, &mut self.bytes, self.body.as_slice()),
+            _ => self.bytes.add(self.body.as_slice()),
         }
-        self.bytes.extend_from_slice(self.body.as_slice())
     }
 }
 
@@ -217,213 +197,21 @@ fn chunk_break(numbers: &mut Numbers) -> &'static str {
     }
 }
 
-fn push_chunk(
-    alloc: Global,
-    numbers: &mut Numbers,
-    bytes: &mut Bytes,
-    chunk: &[u8],
-) -> Result<(), NoMemory> {
-    let size = format!(in alloc; "{:x}", chunk.len())?;
-    bytes.extend_from_slice(size.as_bytes())?;
-    bytes.extend_from_slice(chunk_break(numbers).as_bytes())?;
-    bytes.extend_from_slice(chunk)?;
-    bytes.extend_from_slice(b"\r\n".as_slice())
+fn push_chunk(numbers: &mut Numbers, bytes: &mut Parts, chunk: &[u8]) {
+    bytes.push_hex(chunk.len());
+    bytes.push(chunk_break(numbers));
+    bytes.add(chunk);
+    bytes.push("\r\n");
 }
 
 // The body in chunks.
-fn push_chunks(
-    alloc: Global,
-    numbers: &mut Numbers,
-    bytes: &mut Bytes,
-    body: &[u8],
-) -> Result<(), NoMemory> {
+fn push_chunks(numbers: &mut Numbers, bytes: &mut Parts, body: &[u8]) {
     let size = numbers.some(body.len().saturating_add(1));
-    let mut from = 0usize;
-    for _ in 0..body.len() {
-        let to = from.saturating_add(size).min(body.len());
-        if let Some(chunk) = body.get(from..to) {
-            if !chunk.is_empty() {
-                push_chunk(alloc, numbers, bytes, chunk)?;
-            }
-        }
-        from = to;
+    for chunk in body.chunks(size.max(1)) {
+        push_chunk(numbers, bytes, chunk);
     }
-    bytes.extend_from_slice(chunk_end(numbers).as_bytes())
+    bytes.push(chunk_end(numbers));
 }
-
-// ---- requests that are refused as they are read
-
-// The text of such a request behind its method, the cause, and how many bytes stand behind the one with which it is
-// known. The head was read where it says so.
-#[derive(Clone, Copy)]
-struct Broken {
-    text: &'static str,
-    cause: Cause,
-    behind: usize,
-    read: bool,
-}
-
-static BROKEN: [Broken; 15] = [
-    Broken {
-        text: " / HTTP/2.0\r\nHost: a\r\n\r\n",
-        cause: Cause::BadHead,
-        behind: 0,
-        read: false,
-    },
-    Broken {
-        text: " /cgi HTTP/1.1\r\nHost: a\r\n b\r\n\r\n",
-        cause: Cause::BadHead,
-        behind: 0,
-        read: false,
-    },
-    Broken {
-        text: " /cgi/012345678901234567890123456789012345678901234567890123456789 HTTP/1.1\r\nHost: a\r\n\r\n",
-        cause: Cause::TargetTooLong,
-        behind: 0,
-        read: false,
-    },
-    Broken {
-        text: " * HTTP/1.1\r\n\r\n",
-        cause: Cause::NotServed,
-        behind: 0,
-        read: true,
-    },
-    Broken {
-        text: " /cgi HTTP/1.1\r\nX: y\r\n\r\n",
-        cause: Cause::BadHost,
-        behind: 0,
-        read: true,
-    },
-    Broken {
-        text: " /cgi HTTP/1.1\r\nHost: a\r\nHost: a\r\n\r\n",
-        cause: Cause::BadHost,
-        behind: 0,
-        read: true,
-    },
-    Broken {
-        text: " https://a/cgi HTTP/1.1\r\nHost: a\r\n\r\n",
-        cause: Cause::BadTarget,
-        behind: 0,
-        read: true,
-    },
-    Broken {
-        text: " /cgi HTTP/1.1\r\nHost: a\r\nContent-Length: 1\r\nContent-Length: 2\r\n\r\nx",
-        cause: Cause::BadFraming,
-        behind: 1,
-        read: true,
-    },
-    Broken {
-        text: " /cgi HTTP/1.0\r\nTransfer-Encoding: chunked\r\n\r\n",
-        cause: Cause::BadFraming,
-        behind: 0,
-        read: true,
-    },
-    Broken {
-        text: " /cgi HTTP/1.1\r\nHost: a\r\nTransfer-Encoding: gzip, chunked\r\n\r\n",
-        cause: Cause::CodingUnknown,
-        behind: 0,
-        read: true,
-    },
-    Broken {
-        text: " /cgi HTTP/1.1\r\nHost: a\r\nContent-Length: 140001\r\nExpect: 100-continue\r\n\r\n",
-        cause: Cause::BodyTooLong,
-        behind: 0,
-        read: true,
-    },
-    Broken {
-        text: " /cgi HTTP/1.1\r\nHost: a\r\nContent-Length: 2\r\nExpect: 100-continue, b\r\n\r\nxy",
-        cause: Cause::BadExpect,
-        behind: 2,
-        read: true,
-    },
-    Broken {
-        text: " /cgi HTTP/1.1\r\nHost: a\r\nTransfer-Encoding: chunked\r\n\r\n3\r\nabcX\n",
-        cause: Cause::BadChunk,
-        behind: 1,
-        read: true,
-    },
-    Broken {
-        text: " /cgi HTTP/1.1\r\nHost: a\r\nTransfer-Encoding: chunked\r\n\r\n5\r\nabcde\r\nfffff\r\n",
-        cause: Cause::BodyTooLong,
-        behind: 2,
-        read: true,
-    },
-    Broken {
-        text: " /cgi HTTP/1.1\r\nHost: a\r\nTransfer-Encoding: chunked\r\n\r\n0\r\n\n",
-        cause: Cause::BadChunk,
-        behind: 0,
-        read: true,
-    },
-];
-
-// Why it is refused, and with which byte that is known.
-fn note_bad(ask: &mut Ask, cause: Cause, at: usize, bare: bool) {
-    ask.head = ask.bytes.len();
-    ask.bad = Some(Bad { cause, at, bare });
-}
-
-fn push_both(ask: &mut Ask, first: &str, second: &str) -> Result<(), NoMemory> {
-    ask.push(first)?;
-    ask.push(second)
-}
-
-// A request of the table.
-fn make_broken(numbers: &mut Numbers, broken: &Broken, ask: &mut Ask) -> Result<(), NoMemory> {
-    let method = method_of(numbers, false);
-    ask.method = method;
-    push_both(ask, method, broken.text)?;
-    let at = ask.bytes.len().saturating_sub(broken.behind);
-    let bare = broken.read && ask.is_head();
-    note_bad(ask, broken.cause, at, bare);
-    Ok(())
-}
-
-fn push_often(ask: &mut Ask, text: &str, count: usize) -> Result<(), NoMemory> {
-    for _ in 0..count {
-        ask.push(text)?;
-    }
-    Ok(())
-}
-
-// A head that doesn't end within its limit, one with too many fields, or an empty line too many.
-fn push_long(ask: &mut Ask, kind: u64) -> Result<(Cause, usize), NoMemory> {
-    match kind {
-        0 => {
-            ask.push("GET /cgi HTTP/1.1\r\nX: ")?;
-            push_often(ask, "x", HEAD_LIMIT)?;
-            Ok((Cause::HeadTooLong, HEAD_LIMIT))
-        }
-        1 => {
-            ask.push("GET /cgi HTTP/1.1\r\n")?;
-            push_often(ask, "a:\r\n", 101)?;
-            ask.push("\r\n")?;
-            Ok((Cause::TooManyFields, ask.bytes.len()))
-        }
-        _ => {
-            ask.lead = 2;
-            ask.push("\r\n\r\nGET")?;
-            Ok((Cause::BadHead, 4))
-        }
-    }
-}
-
-fn make_long(ask: &mut Ask, kind: u64) -> Result<(), NoMemory> {
-    let (cause, at) = push_long(ask, kind)?;
-    note_bad(ask, cause, at, false);
-    Ok(())
-}
-
-fn make_bad(numbers: &mut Numbers, ask: &mut Ask) -> Result<(), NoMemory> {
-    if numbers.once_in(6) {
-        return make_long(ask, numbers.below(3));
-    }
-    match BROKEN.get(numbers.place(BROKEN.len())) {
-        Some(broken) => make_broken(numbers, broken, ask),
-        None => make_long(ask, 2),
-    }
-}
-
-// ---- requests that are read
 
 fn method_of(numbers: &mut Numbers, bodied: bool) -> &'static str {
     match numbers.below(if bodied { 12 } else { 4 }) {
@@ -434,9 +222,10 @@ fn method_of(numbers: &mut Numbers, bodied: bool) -> &'static str {
     }
 }
 
-fn sized_of(numbers: &mut Numbers) -> Sized {
+fn sized_of(numbers: &mut Numbers, old: bool) -> Sized {
     match numbers.below(8) {
         0 | 1 | 2 => Sized::Length,
+        3 | 4 if old => Sized::Length,
         3 | 4 => Sized::Chunked,
         _ => Sized::None,
     }
@@ -452,46 +241,39 @@ fn body_len(numbers: &mut Numbers) -> usize {
     }
 }
 
-fn body_of(alloc: Global, len: usize) -> Result<Bytes, NoMemory> {
-    let mut bytes = Bytes::new(alloc);
+fn fill_body(body: &mut Parts, len: usize) {
     for place in 0..len {
-        bytes.push((place % 251) as u8)?;
-    }
-    Ok(bytes)
-}
-
-fn extra_at(place: usize) -> &'static Extra {
-    match EXTRAS.get(place) {
-        Some(extra) => extra,
-        None => &NO_EXTRA,
+        body.add(&[(place % 251) as u8]);
     }
 }
 
-// Its version, its length and what it asks for beside.
-fn choose(alloc: Global, numbers: &mut Numbers, ask: &mut Ask) -> Result<(), NoMemory> {
+// The body of a request that has one.
+fn choose_body(numbers: &mut Numbers, ask: &mut Ask) {
+    let len = body_len(numbers);
+    let most = match ask.sized {
+        Sized::Chunked => len % 65_536,
+        _ => len,
+    };
+    fill_body(&mut ask.body, most);
+    ask.typed = numbers.once_in(2);
+}
+
+// Its version, its length and its body.
+fn choose_length(numbers: &mut Numbers, ask: &mut Ask) {
     ask.old = numbers.once_in(12);
-    ask.sized = sized_of(numbers);
-    if ask.old && ask.sized == Sized::Chunked {
-        ask.sized = Sized::Length;
+    ask.sized = sized_of(numbers, ask.old);
+    if ask.sized != Sized::None {
+        choose_body(numbers, ask);
     }
+}
+
+// What it asks for beside.
+fn choose_beside(numbers: &mut Numbers, ask: &mut Ask) {
     let bodied = ask.sized != Sized::None;
-    if bodied {
-        let len = body_len(numbers);
-        ask.body = body_of(
-            alloc,
-            if ask.sized == Sized::Chunked {
-                len % 65_536
-            } else {
-                len
-            },
-        )?;
-        ask.typed = numbers.once_in(2);
-    }
     ask.method = method_of(numbers, bodied);
     ask.close = numbers.once_in(5);
     ask.lead = if numbers.once_in(12) { 2 } else { 0 };
     ask.extra = extra_at(numbers.place(EXTRAS.len()));
-    Ok(())
 }
 
 fn seat_of(numbers: &mut Numbers, old: bool) -> &'static Seat {
@@ -502,60 +284,78 @@ fn seat_of(numbers: &mut Numbers, old: bool) -> &'static Seat {
     }
 }
 
-fn role_at(
+fn push_role(ask: &mut Ask, role: Role) {
+    ask.lost |= role.is_lost();
+    ask.lost |= ask.roles.push(role).is_err();
+}
+
+fn role_at(alloc: Global, numbers: &mut Numbers, target: &Target, whose: Whose) -> Role {
+    let mut role = role_of(alloc, numbers, target, whose);
+    add_deeds(numbers, &mut role);
+    role
+}
+
+fn hop_of(role: &Role) -> Option<&'static Target> {
+    match role.says {
+        Says::Hop(to) => Some(to),
+        _ => None,
+    }
+}
+
+// The script of a hop, and where that redirects to.
+fn add_role(
     alloc: Global,
     numbers: &mut Numbers,
+    ask: &mut Ask,
     target: &Target,
-    whose: Whose,
-) -> Result<Role, NoMemory> {
-    let mut role = role_of(alloc, numbers, target, whose)?;
-    add_deeds(numbers, &mut role)?;
-    Ok(role)
+) -> Option<&'static Target> {
+    let role = role_at(alloc, numbers, target, ask.seat.whose);
+    let hop = hop_of(&role);
+    push_role(ask, role);
+    hop
+}
+
+fn runs(target: &Target) -> bool {
+    match target.place {
+        Place::Runs { .. } => true,
+        Place::Refused(_) => false,
+    }
 }
 
 // The scripts along its hops.
-fn add_roles(alloc: Global, numbers: &mut Numbers, ask: &mut Ask) -> Result<(), NoMemory> {
-    let mut target = ask.target;
-    let whose = ask.seat.whose;
+fn add_roles(alloc: Global, numbers: &mut Numbers, ask: &mut Ask) {
+    let mut next = Some(ask.target);
     for _ in 0..=REDIRECTS {
-        let Place::Runs { .. } = target.place else {
-            return Ok(());
+        next = match next {
+            Some(target) if runs(target) => add_role(alloc, numbers, ask, target),
+            _ => None,
         };
-        let role = role_at(alloc, numbers, target, whose)?;
-        let says = role.says;
-        ask.roles.push(role)?;
-        match says {
-            Says::Hop(to) => target = to,
-            _ => return Ok(()),
-        }
     }
-    Ok(())
 }
 
 // One whose reply is so long.
-fn make_flood(
-    alloc: Global,
-    numbers: &mut Numbers,
-    more: usize,
-    ask: &mut Ask,
-) -> Result<(), NoMemory> {
-    ask.push_head(alloc, numbers)?;
-    let role = flood_role(alloc, more)?;
-    ask.roles.push(role)?;
-    Ok(())
+fn make_flood(alloc: Global, numbers: &mut Numbers, more: usize, ask: &mut Ask) {
+    ask.push_head(numbers);
+    push_role(ask, flood_role(alloc, more));
 }
 
-fn make_good(alloc: Global, numbers: &mut Numbers, ask: &mut Ask) -> Result<(), NoMemory> {
-    choose(alloc, numbers, ask)?;
+// Whose scripts it asks for, and how it waits for its body to be.
+fn choose_target(numbers: &mut Numbers, ask: &mut Ask) {
     ask.seat = seat_of(numbers, ask.old);
     ask.target = target_at(ask.seat.whose, numbers.place(42));
     let expects = numbers.once_in(5);
     let due = ask.sized == Sized::Chunked || ask.is_long();
     ask.expects = expects && due && !ask.old;
     ask.waits = numbers.once_in(3) || ask.expects && numbers.once_in(2);
-    ask.push_head(alloc, numbers)?;
-    ask.push_body(alloc, numbers)?;
-    add_roles(alloc, numbers, ask)
+}
+
+fn make_good(alloc: Global, numbers: &mut Numbers, ask: &mut Ask) {
+    choose_length(numbers, ask);
+    choose_beside(numbers, ask);
+    choose_target(numbers, ask);
+    ask.push_head(numbers);
+    ask.push_body(numbers);
+    add_roles(alloc, numbers, ask);
 }
 
 // What kind of request.
@@ -567,13 +367,17 @@ pub enum Kind {
     Flood(usize),
 }
 
-pub fn ask_of(alloc: Global, numbers: &mut Numbers, kind: Kind) -> Result<Ask, NoMemory> {
+fn make(alloc: Global, numbers: &mut Numbers, kind: Kind, ask: &mut Ask) {
+    match kind {
+        Kind::Good => make_good(alloc, numbers, ask),
+        Kind::Bad => make_bad(numbers, ask),
+        Kind::Flood(more) => make_flood(alloc, numbers, more, ask),
+    }
+}
+
+pub fn ask_of(alloc: Global, numbers: &mut Numbers, kind: Kind) -> Ask {
     let seat = seat_at(0);
     let mut ask = Ask::new(alloc, seat, target_at(seat.whose, 1));
-    match kind {
-        Kind::Good => make_good(alloc, numbers, &mut ask),
-        Kind::Bad => make_bad(numbers, &mut ask),
-        Kind::Flood(more) => make_flood(alloc, numbers, more, &mut ask),
-    }?;
-    Ok(ask)
+    make(alloc, numbers, kind, &mut ask);
+    ask
 }

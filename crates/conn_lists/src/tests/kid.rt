@@ -2,6 +2,7 @@
 use super::roles::{Role, Says};
 use super::site::{LINGER_TICKS, OUTPUT_LIMIT, RUN_TICKS};
 use host_base::Cause;
+use host_trace::Event;
 
 // What decides a run.
 #[derive(Clone, Copy, PartialEq, Eq)]
@@ -73,7 +74,7 @@ impl Kid {
         self.alone = true;
     }
 
-    pub fn hear_output(&mut self, count: usize) {
+    fn hear_output(&mut self, count: usize) {
         self.asked = false;
         self.heard = self.heard.saturating_add(count);
         if self.heard > OUTPUT_LIMIT {
@@ -81,10 +82,41 @@ impl Kid {
         }
     }
 
-    pub fn hear_end(&mut self, by: By) {
+    fn hear_end(&mut self, by: By) {
         self.asked = false;
         self.output_over = true;
         self.decide(by);
+    }
+
+    fn hear_refusal(&mut self, cause: Cause) {
+        self.refused = true;
+        self.decide(By::Failed(cause));
+    }
+
+    fn hear_taken(&mut self, n: u64) {
+        let count = usize::try_from(n).unwrap_or(0);
+        self.taken = self.taken.saturating_add(count);
+    }
+
+    pub fn hear(&mut self, event: &Event) {
+        match event {
+            Event::Started { .. } => self.started = true,
+            Event::StartFailed { .. } => self.hear_refusal(Cause::StartFailed),
+            Event::StartFull { seen, .. } => self.hear_refusal(Cause::Full { seen: *seen }),
+            Event::Took { n, .. } => self.hear_taken(*n),
+            Event::InputGone { .. } => self.input_over = true,
+            Event::Exited { .. } => self.exited = true,
+            _ => self.hear_pipe(event),
+        }
+    }
+
+    fn hear_pipe(&mut self, event: &Event) {
+        match event {
+            Event::ChildBytes { bytes, .. } => self.hear_output(bytes.len()),
+            Event::ChildEof { .. } => self.hear_end(By::End),
+            Event::ChildBroken { .. } => self.hear_end(By::Failed(Cause::OutputBroken)),
+            _ => {}
+        }
     }
 
     // `head`: how long the header of its output is.

@@ -1,5 +1,6 @@
 // The model's answer, computed step by step by the plain rules: slow and simple. Here stands what it knows and hears.
 mod acts;
+mod turns;
 
 use super::asks::{Ask, Bad, Sized};
 use super::kid::{By, Kid, meaning};
@@ -161,15 +162,30 @@ impl Plain {
         }
     }
 
-    fn role<'a>(&self, story: &'a Story) -> Option<&'a Role> {
+    pub fn role<'a>(&self, story: &'a Story) -> Option<&'a Role> {
         match &self.kid {
             Some(kid) => story.role(self.number, kid.hop),
             None => None,
         }
     }
 
+    pub fn kid_number(&self) -> u64 {
+        match &self.kid {
+            Some(kid) => kid.number,
+            None => 0,
+        }
+    }
+
+    // How much its child wrote.
+    pub fn heard(&self) -> usize {
+        match &self.kid {
+            Some(kid) => kid.heard,
+            None => 0,
+        }
+    }
+
     pub fn waits(&self) -> usize {
-        self.told.wrote.len().saturating_sub(self.left)
+        self.told.wrote.saturating_sub(self.left)
     }
 
     fn has_room(&self) -> bool {
@@ -206,26 +222,26 @@ impl Plain {
         ask.old || ask.close || runs_nph(self.role(story)) || !self.reading(story).whole
     }
 
+    // A request may be started: it stands whole, or its body comes by its length.
+    fn is_due(&self, ask: &Ask, reading: Reading) -> bool {
+        let known = ask.sized == Sized::Length || reading.whole;
+        reading.headed && known && self.broken.is_none()
+    }
+
+    // Where its output leads next, once it has ended.
+    fn hop(&self, story: &Story, kid: &Kid) -> Option<&'static Target> {
+        let role = self.role(story)?;
+        match meaning(role, kid.heard) {
+            Says::Hop(to) if kid.by == Some(By::End) => Some(to),
+            _ => None,
+        }
+    }
+
     // Where the request, or a local redirect, leads next, and as which hop.
     fn due(&self, story: &Story, ask: &Ask) -> Option<(&'static Target, usize)> {
-        let reading = self.reading(story);
-        let Some(kid) = &self.kid else {
-            let known = ask.sized == Sized::Length || reading.whole;
-            let startable = reading.headed && known && self.broken.is_none();
-            return if startable {
-                Some((ask.target, 0))
-            } else {
-                None
-            };
-        };
-        if kid.by != Some(By::End) {
-            return None;
-        }
-        match self.role(story) {
-            Some(role) => match meaning(role, kid.heard) {
-                Says::Hop(to) => Some((to, kid.hop.saturating_add(1))),
-                _ => None,
-            },
+        match &self.kid {
+            Some(kid) => Some((self.hop(story, kid)?, kid.hop.saturating_add(1))),
+            None if self.is_due(ask, self.reading(story)) => Some((ask.target, 0)),
             None => None,
         }
     }
@@ -262,29 +278,8 @@ impl Plain {
     // ---- what is heard
 
     fn hear_kid(&mut self, event: &Event) {
-        let Some(kid) = &mut self.kid else {
-            return;
-        };
-        match event {
-            Event::Started { .. } => kid.started = true,
-            Event::StartFailed { .. } => {
-                kid.refused = true;
-                kid.decide(By::Failed(Cause::StartFailed));
-            }
-            Event::StartFull { seen, .. } => {
-                kid.refused = true;
-                kid.decide(By::Failed(Cause::Full { seen: *seen }));
-            }
-            Event::ChildBytes { bytes, .. } => kid.hear_output(bytes.len()),
-            Event::ChildEof { .. } => kid.hear_end(By::End),
-            Event::ChildBroken { .. } => kid.hear_end(By::Failed(Cause::OutputBroken)),
-            Event::Took { n, .. } => {
-                let count = usize::try_from(*n).unwrap_or(0);
-                kid.taken = kid.taken.saturating_add(count);
-            }
-            Event::InputGone { .. } => kid.input_over = true,
-            Event::Exited { .. } => kid.exited = true,
-            _ => {}
+        if let Some(kid) = &mut self.kid {
+            kid.hear(event);
         }
     }
 

@@ -1,8 +1,9 @@
 // An outside that writes down what it is asked for, and tells no trace.
 ghost use Rattle.std.specs.Prelude.{None};
 
+use super::parts::Parts;
 use super::told::Told;
-use host_base::{Launch, NoMemory};
+use host_base::Launch;
 use host_trace::{Act, Acted, Event, Outside, Why};
 use std::alloc::Global;
 
@@ -10,7 +11,7 @@ use std::alloc::Global;
 pub struct Recorder {
     alloc: Global,
     pub told: Told,
-    // No memory was found to write an act down, or it names another connection.
+    // An act names another connection.
     pub failed: bool,
 }
 
@@ -26,40 +27,26 @@ fn why_text(why: Why) -> &'static str {
     }
 }
 
-fn push_line(text: &mut String, line: &str) -> Result<(), NoMemory> {
-    text.push_str(line)?;
-    text.push('\n')?;
-    Ok(())
-}
-
-fn push_args(text: &mut String, launch: &Launch) -> Result<(), NoMemory> {
+fn push_args(text: &mut Parts, launch: &Launch) {
     for arg in launch.args.as_slice() {
-        push_line(text, arg.as_str())?;
+        text.push_line(arg.as_str());
     }
-    Ok(())
 }
 
-fn push_env(text: &mut String, launch: &Launch) -> Result<(), NoMemory> {
+fn push_env(text: &mut Parts, launch: &Launch) {
     for pair in launch.env.as_slice() {
-        text.push_str(pair.name.as_str())?;
-        text.push('=')?;
-        push_line(text, pair.value.as_str())?;
+        text.push(pair.name.as_str());
+        text.push("=");
+        text.push_line(pair.value.as_str());
     }
-    Ok(())
-}
-
-fn push_launch(text: &mut String, launch: &Launch) -> Result<(), NoMemory> {
-    push_line(text, launch.program.as_str())?;
-    push_line(text, launch.dir.as_str())?;
-    push_args(text, launch)?;
-    push_env(text, launch)
 }
 
 // The program, its folder, its arguments and its environment, one a line.
-fn text_of(alloc: Global, launch: &Launch) -> Result<String, NoMemory> {
-    let mut text = String::new(alloc);
-    push_launch(&mut text, launch)?;
-    Ok(text)
+fn push_launch(text: &mut Parts, launch: &Launch) {
+    text.push_line(launch.program.as_str());
+    text.push_line(launch.dir.as_str());
+    push_args(text, launch);
+    push_env(text, launch);
 }
 
 impl Recorder {
@@ -73,10 +60,17 @@ impl Recorder {
 
     // A step ends.
     pub fn mark(&mut self) {
-        self.failed |= self.told.mark().is_err();
+        self.told.mark();
     }
 
-    fn note(&mut self, act: &Act) -> Result<(), NoMemory> {
+    fn start(&mut self, k: u64, j: u128, hop: u32, launch: &Launch) {
+        let number = usize::try_from(j).unwrap_or(usize::MAX);
+        let mut text = Parts::new(self.alloc);
+        push_launch(&mut text, launch);
+        self.told.start(k, number, hop as usize, &text);
+    }
+
+    fn note(&mut self, act: &Act) {
         match act {
             Act::WantClient { c: 0 } => self.told.ask_client(),
             Act::Write { c: 0, bytes } => self.told.write(bytes.as_slice()),
@@ -87,17 +81,20 @@ impl Recorder {
                 j,
                 hop,
                 launch,
-            } => {
-                let text = text_of(self.alloc, launch)?;
-                let number = usize::try_from(*j).unwrap_or(usize::MAX);
-                self.told.start(*k, number, *hop as usize, text.as_str())
-            }
+            } => self.start(*k, *j, *hop, launch),
+            _ => self.note_child(act),
+        }
+    }
+
+    // An act on a child.
+    fn note_child(&mut self, act: &Act) {
+        match act {
             Act::Feed { k, bytes } => self.told.feed(*k, bytes.as_slice()),
             Act::EndInput { k } => self.told.child("EndInput", *k),
             Act::WantChild { k } => self.told.ask_child(*k),
             Act::Kill { k } => self.told.child("Kill", *k),
             Act::Release { k } => self.told.child("Release", *k),
-            _ => Err(NoMemory),
+            _ => self.failed = true,
         }
     }
 }
@@ -116,7 +113,7 @@ impl Outside for Recorder {
     }
 
     fn act(&mut self, act: &Act) -> Acted {
-        self.failed |= self.note(act).is_err();
+        self.note(act);
         Acted::Done
     }
 }

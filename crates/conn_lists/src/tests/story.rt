@@ -1,9 +1,10 @@
 // A story: what a client sends, what its scripts do, and what goes wrong.
 use super::asks::{Ask, Kind, Sized, ask_of};
 use super::numbers::Numbers;
+use super::parts::Parts;
 use super::roles::{Role, Says};
 use super::site::{CLOCKS, OUTPUT_LIMIT, Place, Target};
-use host_base::{Bytes, NoMemory};
+use host_base::NoMemory;
 use std::alloc::Global;
 
 // How soon what was written leaves for the client.
@@ -40,7 +41,7 @@ pub enum When {
 pub struct Story {
     pub asks: Vec<Ask>,
     // All that the client sends, and the places at which it waits until nothing else goes on.
-    pub stream: Bytes,
+    pub stream: Parts,
     pub holds: Vec<usize>,
     // Ticks before it is accepted.
     pub early: u32,
@@ -51,6 +52,8 @@ pub struct Story {
     pub trouble: Option<(When, Turn)>,
     // What the clock shows at odd and even Ticks.
     pub clocks: (u64, u64),
+    // Memory was wanting for a request or a place.
+    lost: bool,
 }
 
 fn clock_at(place: usize) -> u64 {
@@ -104,73 +107,99 @@ impl Story {
 
     // Where its request stands in what the client sends.
     fn start_of(&self, place: usize) -> usize {
+        let asks = self.asks.as_slice();
         let mut sum = 0usize;
-        for ask in self.asks.iter().take(place) {
+        for ask in asks.get(..place).unwrap_or(asks) {
             sum = sum.saturating_add(ask.bytes.len());
         }
         sum
     }
 
-    fn add_ask(
-        &mut self,
-        alloc: Global,
-        numbers: &mut Numbers,
-        kind: Kind,
-    ) -> Result<(), NoMemory> {
-        let ask = ask_of(alloc, numbers, kind)?;
-        self.asks.push(ask)?;
-        Ok(())
+    fn add_ask(&mut self, alloc: Global, numbers: &mut Numbers, kind: Kind) {
+        self.push_ask(ask_of(alloc, numbers, kind));
+    }
+
+    fn push_ask(&mut self, ask: Ask) {
+        self.lost |= ask.is_lost();
+        self.lost |= self.asks.push(ask).is_err();
+    }
+
+    fn hold(&mut self, at: usize) {
+        self.lost |= self.holds.push(at).is_err();
     }
 
     // Two replies that together are more than may wait to be sent.
-    fn flood(&mut self, alloc: Global, numbers: &mut Numbers) -> Result<(), NoMemory> {
+    fn flood(&mut self, alloc: Global, numbers: &mut Numbers) {
         self.leaves = match numbers.below(5) {
             0 => Leaves::Late,
             1 => Leaves::Never,
             2 => Leaves::InParts,
             _ => Leaves::Slow,
         };
-        self.add_ask(alloc, numbers, Kind::Flood(255_000))?;
+        self.add_ask(alloc, numbers, Kind::Flood(255_000));
         self.add_ask(alloc, numbers, Kind::Flood(8000))
     }
 
-    fn add_holds(&mut self, numbers: &mut Numbers) -> Result<(), NoMemory> {
-        let mut at = 0usize;
-        for ask in self.asks.as_slice() {
-            if numbers.once_in(4) {
-                self.holds.push(at)?;
-            }
-            if ask.waits {
-                self.holds.push(at.saturating_add(ask.head))?;
-            }
-            at = at.saturating_add(ask.bytes.len());
-            self.stream.extend_from_slice(ask.bytes.as_slice())?;
+    fn add_asks(&mut self, alloc: Global, numbers: &mut Numbers) {
+        for _ in 0..numbers.some(4) {
+            let kind = kind_of(numbers);
+            self.add_ask(alloc, numbers, kind);
         }
-        Ok(())
+    }
+
+    // The client sends all that it asks, and may wait in front of a request and behind its head.
+    fn add_stream(&mut self, numbers: &mut Numbers) {
+        for place in 0..self.asks.len() {
+            let at = self.stream.len();
+            let (head, waits) = self.send(place);
+            if numbers.once_in(4) {
+                self.hold(at);
+            }
+            if waits {
+                self.hold(at.saturating_add(head));
+            }
+        }
+    }
+
+    // Sends a request, of which it says where its head ends, and whether the client waits there.
+    fn send(&mut self, place: usize) -> (usize, bool) {
+        match self.asks.as_slice().get(place) {
+            Some(ask) => {
+                self.stream.add_parts(&ask.bytes);
+                (ask.head, ask.waits)
+            }
+            None => (0, false),
+        }
     }
 
     // Something goes wrong at a byte of a request, which comes in a piece of its own.
-    fn add_trouble(&mut self, numbers: &mut Numbers) -> Result<(), NoMemory> {
+    fn add_trouble(&mut self, numbers: &mut Numbers) {
         let turn = turn_of(numbers);
         if numbers.once_in(2) {
-            let child = numbers.below(4);
-            let deed = numbers.place(6);
-            self.trouble = Some((When::Done(child, deed), turn));
-            return Ok(());
+            self.trouble = Some((deed_of(numbers), turn));
+            return;
         }
         let place = numbers.place(self.asks.len());
         let start = self.start_of(place);
-        let (head, len) = match self.ask(place) {
-            Some(ask) => (ask.head, ask.bytes.len()),
-            None => (0, 0),
-        };
-        let from = if numbers.once_in(2) { head } else { 0 };
-        let count = len.saturating_sub(from).saturating_add(1);
-        let within = from.saturating_add(numbers.place(count));
-        self.holds.push(start)?;
+        let within = place_within(numbers, self.ask(place));
         self.trouble = Some((When::Sent(start.saturating_add(within)), turn));
-        Ok(())
+        self.hold(start);
     }
+}
+
+fn deed_of(numbers: &mut Numbers) -> When {
+    let child = numbers.below(4);
+    When::Done(child, numbers.place(6))
+}
+
+fn place_within(numbers: &mut Numbers, ask: Option<&Ask>) -> usize {
+    let (head, len) = match ask {
+        Some(ask) => (ask.head, ask.bytes.len()),
+        None => (0, 0),
+    };
+    let from = if numbers.once_in(2) { head } else { 0 };
+    let count = len.saturating_sub(from).saturating_add(1);
+    from.saturating_add(numbers.place(count))
 }
 
 fn kind_of(numbers: &mut Numbers) -> Kind {
@@ -181,35 +210,40 @@ fn kind_of(numbers: &mut Numbers) -> Kind {
     }
 }
 
-fn fill(alloc: Global, numbers: &mut Numbers, story: &mut Story) -> Result<(), NoMemory> {
+fn fill(alloc: Global, numbers: &mut Numbers, story: &mut Story) {
     if numbers.once_in(25) {
-        story.flood(alloc, numbers)?;
+        story.flood(alloc, numbers);
     }
-    for _ in 0..numbers.some(4) {
-        let kind = kind_of(numbers);
-        story.add_ask(alloc, numbers, kind)?;
-    }
-    story.add_holds(numbers)?;
+    story.add_asks(alloc, numbers);
+    story.add_stream(numbers);
     if numbers.once_in(3) {
-        return story.add_trouble(numbers);
+        story.add_trouble(numbers);
     }
-    Ok(())
+}
+
+// A story of nothing.
+fn bare_story(alloc: Global, numbers: &mut Numbers) -> Story {
+    Story {
+        asks: Vec::new(alloc),
+        stream: Parts::new(alloc),
+        holds: Vec::new(alloc),
+        early: if numbers.once_in(5) { 5 } else { 0 },
+        client_first: !numbers.once_in(4),
+        leaves: leaves_of(numbers),
+        last: last_of(numbers),
+        trouble: None,
+        clocks: (clock_at(numbers.place(4)), clock_at(numbers.place(4))),
+        lost: false,
+    }
 }
 
 pub fn story_of(alloc: Global, seed: u64) -> Result<Story, NoMemory> {
     let mut numbers = Numbers::new(seed);
-    let mut story = Story {
-        asks: Vec::new(alloc),
-        stream: Bytes::new(alloc),
-        holds: Vec::new(alloc),
-        early: if numbers.once_in(5) { 5 } else { 0 },
-        client_first: !numbers.once_in(4),
-        leaves: leaves_of(&mut numbers),
-        last: last_of(&mut numbers),
-        trouble: None,
-        clocks: (clock_at(numbers.place(4)), clock_at(numbers.place(4))),
-    };
-    fill(alloc, &mut numbers, &mut story)?;
+    let mut story = bare_story(alloc, &mut numbers);
+    fill(alloc, &mut numbers, &mut story);
+    if story.lost || story.stream.is_lost() {
+        return Err(NoMemory);
+    }
     Ok(story)
 }
 

@@ -1,12 +1,11 @@
 // What comes next: the client, its child, the clock, and what goes wrong. It gives what fits what was asked for.
+mod events;
+
 use super::kid::Kid;
 use super::numbers::Numbers;
 use super::plain::Plain;
 use super::roles::{Deed, Role};
 use super::story::{Leaves, Story, Turn, When};
-use host_base::{Bytes, NoMemory, Peer, Text};
-use host_trace::Event;
-use std::alloc::Global;
 
 // How what comes is cut.
 #[derive(Clone, Copy, PartialEq, Eq)]
@@ -49,7 +48,7 @@ enum Step {
     Goes(Next),
 }
 
-#[derive(Drop)]
+#[derive(Clone, Copy)]
 pub struct World {
     cut: Cut,
     numbers: Numbers,
@@ -346,6 +345,22 @@ impl World {
         World::rest(kid)
     }
 
+    // Another child has done no deed so far.
+    fn meet(&mut self, kid: &Kid) {
+        if kid.number != self.child {
+            self.child = kid.number;
+            self.deed = 0;
+            self.spent = 0;
+        }
+    }
+
+    fn serve(&mut self, role: &Role, kid: &Kid) -> Option<Next> {
+        if role.takes && kid.fed > kid.taken {
+            return Some(Next::Took(kid.fed.saturating_sub(kid.taken)));
+        }
+        self.deeds(role, kid)
+    }
+
     // What its child does.
     fn act(&mut self, story: &Story, plain: &Plain) -> Option<Next> {
         let Some(kid) = &plain.kid else {
@@ -354,18 +369,11 @@ impl World {
         if kid.is_settled() {
             return None;
         }
-        if kid.number != self.child {
-            self.child = kid.number;
-            self.deed = 0;
-            self.spent = 0;
+        self.meet(kid);
+        match plain.role(story) {
+            Some(role) => self.serve(role, kid),
+            None => None,
         }
-        let Some(role) = story.role(plain.number, kid.hop) else {
-            return None;
-        };
-        if role.takes && kid.fed > kid.taken {
-            return Some(Next::Took(kid.fed.saturating_sub(kid.taken)));
-        }
-        self.deeds(role, kid)
     }
 
     // ---- all
@@ -455,72 +463,4 @@ impl World {
             story.clocks.1
         }
     }
-
-    // The event.
-    pub fn event(
-        &self,
-        alloc: Global,
-        story: &Story,
-        plain: &Plain,
-        next: Next,
-    ) -> Result<Event, NoMemory> {
-        Ok(match next {
-            Next::Accept => Event::Accepted {
-                peer: Peer(Text::copy_of(alloc, "192.0.2.1")?),
-            },
-            Next::Client(count) => Event::ClientBytes {
-                c: 0,
-                bytes: part_of(alloc, story.stream.as_slice(), plain.got, count)?,
-            },
-            Next::End => Event::ClientEof { c: 0 },
-            Next::Gone => Event::ClientGone { c: 0 },
-            Next::NoRoom => Event::NoRoom { c: 0 },
-            Next::Stop => Event::Stop,
-            Next::Tick => Event::Tick {
-                secs: self.secs(story),
-            },
-            Next::Left(count) => Event::Wrote {
-                c: 0,
-                n: count as u64,
-            },
-            _ => child_event(alloc, story, plain, next)?,
-        })
-    }
-}
-
-fn part_of(alloc: Global, bytes: &[u8], from: usize, count: usize) -> Result<Bytes, NoMemory> {
-    let part = bytes.get(from..from.saturating_add(count)).unwrap_or(&[]);
-    Bytes::from_slice(alloc, part)
-}
-
-fn output_of(alloc: Global, story: &Story, plain: &Plain, count: usize) -> Result<Bytes, NoMemory> {
-    let Some(kid) = &plain.kid else {
-        return Ok(Bytes::new(alloc));
-    };
-    match story.role(plain.number, kid.hop) {
-        Some(role) => part_of(alloc, role.output.as_slice(), kid.heard, count),
-        None => Ok(Bytes::new(alloc)),
-    }
-}
-
-fn child_event(alloc: Global, story: &Story, plain: &Plain, next: Next) -> Result<Event, NoMemory> {
-    let k = match &plain.kid {
-        Some(kid) => kid.number,
-        None => 0,
-    };
-    Ok(match next {
-        Next::Started => Event::Started { k },
-        Next::Failed => Event::StartFailed { k },
-        Next::Full(seen) => Event::StartFull { k, seen },
-        Next::Out(count) => Event::ChildBytes {
-            k,
-            bytes: output_of(alloc, story, plain, count)?,
-        },
-        Next::OutEnd => Event::ChildEof { k },
-        Next::Broken => Event::ChildBroken { k },
-        Next::Took(count) => Event::Took { k, n: count as u64 },
-        Next::InGone => Event::InputGone { k },
-        Next::Exited => Event::Exited { k },
-        _ => Event::Stop,
-    })
 }

@@ -1,9 +1,10 @@
 // What children are started with and fed.
 ghost use Rattle.host_base.specs.SiteRules.{IsServed};
 
+use super::parts::Parts;
 use super::play::Heard::{Accept, Client, Exited, Out, OutEnd, Started};
-use super::play::{Heard, SITE, Script, drive};
-use super::recorder::{Recorder, push_line};
+use super::play::{Heard, SITE, Script, played};
+use super::recorder::Recorder;
 use host_base::{NoMemory, Site};
 use site_file::read_site;
 use std::alloc::Global;
@@ -149,39 +150,41 @@ fn record(alloc: Global, site: &Site, heard: &[Heard]) -> Result<Recorder, NoMem
     requires { IsServed site.now }
 {
     let mut script = Script::new(alloc, false);
-    script.hear_all(heard)?;
-    Ok(drive(alloc, site, script, None))
-}
-
-fn push_lines(text: &mut String, lines: &[&'static str]) -> Result<(), NoMemory> {
-    for line in lines {
-        push_line(text, *line)?;
-    }
-    Ok(())
+    script.hear_all(heard);
+    played(alloc, site, script, None)
 }
 
 // What a case starts children with, one a line.
-fn launched(alloc: Global, case: &Case) -> Result<String, NoMemory> {
-    let mut text = String::new(alloc);
-    push_lines(&mut text, case.launched)?;
-    Ok(text)
+fn launched(alloc: Global, case: &Case) -> Parts {
+    let mut text = Parts::new(alloc);
+    for line in case.launched {
+        text.push_line(*line);
+    }
+    text
 }
 
 // Whether children are started with and fed what they must be.
 fn is_as_due(alloc: Global, case: &Case, out: &Recorder) -> Result<bool, NoMemory> {
-    let due = launched(alloc, case)?;
+    let due = launched(alloc, case);
+    if due.is_lost() {
+        return Err(NoMemory);
+    }
     Ok(out.launched.as_str() == due.as_str() && out.fed.as_slice() == case.fed.as_bytes())
 }
 
 // What they are started with, where that or what they are fed is not what it must be; nothing where it is.
+fn other_than(alloc: Global, case: &Case, out: &Recorder) -> Result<String, NoMemory> {
+    if is_as_due(alloc, case, out)? {
+        return Ok(String::new(alloc));
+    }
+    Ok(format!(in alloc; "started {}", out.launched.as_str())?)
+}
+
 fn other_at(alloc: Global, site: &Site, case: &Case) -> Result<String, NoMemory>
     requires { IsServed site.now }
 {
     let out = record(alloc, site, case.heard)?;
-    if is_as_due(alloc, case, &out)? {
-        return Ok(String::new(alloc));
-    }
-    Ok(format!(in alloc; "started {}", out.launched.as_str())?)
+    other_than(alloc, case, &out)
 }
 
 fn other(alloc: Global, case: &Case) -> Result<String, NoMemory> {

@@ -1,10 +1,11 @@
 // Rows that are made by a loop: eleven hops, a long body, a long output.
 ghost use Rattle.host_base.specs.SiteRules.{IsServed};
 
+use super::parts::Parts;
 use super::play::Heard::{
     Accept, Client, Exited, Fill, Out, OutBroken, OutEnd, OutFill, Started, Took, Wrote,
 };
-use super::play::{Heard, SITE, Script, drive};
+use super::play::{Heard, SITE, Script, played};
 use host_base::{NoMemory, Site};
 use site_file::read_site;
 use std::alloc::Global;
@@ -12,154 +13,153 @@ use std::test::Fail;
 
 const P: &str = "GET /cgi-bin/hello HTTP/1.1\r\nHost: a\r\nConnection: close\r\n\r\n";
 
-fn hear_hops(play: &mut Script) -> Result<(), NoMemory> {
-    play.hear_all(&[Accept, Client(P)])?;
+fn hear_hops(play: &mut Script) {
+    play.hear_all(&[Accept, Client(P)]);
     for k in 0..11u64 {
         play.hear_all(&[
             Started(k),
             Out(k, "Location: /cgi-bin/hello\n\n"),
             OutEnd(k),
             Exited(k),
-        ])?;
+        ]);
     }
-    Ok(())
 }
 
-fn push_hop(alloc: Global, text: &mut String, k: u64) -> Result<(), NoMemory> {
-    let hop = format!(in alloc;
-        "Start {k} 0 {k} /srv/cgi/hello\nEndInput {k}\nWantChild {k}\nWantChild {k}\n"
-    )?;
-    text.push_str(hop.as_str())?;
-    Ok(())
+fn push_hop(text: &mut Parts, k: u64) {
+    let k = u128::from(k);
+    text.push("Start ");
+    text.push_number(k);
+    text.push(" 0 ");
+    text.push_number(k);
+    text.push(" /srv/cgi/hello\nEndInput ");
+    text.push_number(k);
+    text.push("\nWantChild ");
+    text.push_number(k);
+    text.push("\nWantChild ");
+    text.push_number(k);
+    text.push("\n");
 }
 
-fn push_hops(alloc: Global, text: &mut String) -> Result<(), NoMemory> {
-    text.push_str("WantClient\n")?;
+fn push_hops(text: &mut Parts) {
+    text.push_line("WantClient");
     for k in 0..11u64 {
-        push_hop(alloc, text, k)?;
+        push_hop(text, k);
     }
-    text.push_str(
+    text.push(
         "Write HTTP/1.1 500 Internal Server Error\r\nContent-Type: text/plain\r\nContent-Length: 25\r\nConnection: close\r\n\r\ntoo many local redirects\n\nShut Done\n",
-    )?;
-    Ok(())
+    );
 }
 
-fn hear_body(play: &mut Script) -> Result<(), NoMemory> {
+fn hear_body(play: &mut Script) {
     play.hear_all(&[
         Accept,
         Client("POST /cgi-bin/form HTTP/1.1\r\nHost: a\r\nContent-Length: 1048576\r\n\r\n"),
         Started(0),
-    ])?;
+    ]);
     for _ in 0..16 {
-        play.hear_all(&[Fill(b'x', 65_536), Took(0, 65_536)])?;
+        play.hear_all(&[Fill(b'x', 65_536), Took(0, 65_536)]);
     }
-    Ok(())
 }
 
-fn push_feeds(text: &mut String) -> Result<(), NoMemory> {
-    text.push_str("WantClient\nStart 0 0 0 /srv/cgi/form\nWantClient\nWantChild 0\n")?;
+fn push_feeds(text: &mut Parts) {
+    text.push("WantClient\nStart 0 0 0 /srv/cgi/form\nWantClient\nWantChild 0\n");
     for _ in 0..15 {
-        text.push_str("Feed 0 65536\nWantClient\n")?;
+        text.push("Feed 0 65536\nWantClient\n");
     }
-    text.push_str("Feed 0 65536\nEndInput 0\n")?;
-    Ok(())
+    text.push("Feed 0 65536\nEndInput 0\n");
 }
 
 const HEADER: &str = "Content-Type: text/plain\n\n";
 
 // A long output whose reply has begun, and how it ends.
-fn hear_output(play: &mut Script, end: &[Heard]) -> Result<(), NoMemory> {
-    play.hear_all(&[Accept, Client(P), Started(0), OutFill(0, HEADER, 9000)])?;
+fn hear_output(play: &mut Script, end: &[Heard]) {
+    play.hear_all(&[Accept, Client(P), Started(0), OutFill(0, HEADER, 9000)]);
     play.hear_all(end)
 }
 
-fn push_fill(text: &mut String, count: usize) -> Result<(), NoMemory> {
+fn push_fill(text: &mut Parts, count: usize) {
     for _ in 0..count {
-        text.push('a')?;
+        text.push("a");
     }
-    Ok(())
 }
 
-fn push_output(text: &mut String, end: &str) -> Result<(), NoMemory> {
-    text.push_str(
+fn push_output(text: &mut Parts, end: &str) {
+    text.push(
         "WantClient\nStart 0 0 0 /srv/cgi/hello\nEndInput 0\nWantChild 0\nWrite HTTP/1.1 200 OK\r\nContent-Type: text/plain\r\nTransfer-Encoding: chunked\r\nConnection: close\r\n\r\n2328\r\n",
-    )?;
-    push_fill(text, 9000)?;
-    text.push_str("\r\n\nWantChild 0\n")?;
-    text.push_str(end)?;
-    Ok(())
+    );
+    push_fill(text, 9000);
+    text.push("\r\n\nWantChild 0\n");
+    text.push(end);
 }
 
 // What is heard, and the acts that are due.
 #[derive(Drop)]
 struct Long {
     play: Script,
-    due: String,
+    due: Parts,
 }
 
 impl Long {
     fn new(alloc: Global) -> Self {
         Long {
             play: Script::new(alloc, false),
-            due: String::new(alloc),
+            due: Parts::new(alloc),
         }
     }
 }
 
-fn hops(alloc: Global) -> Result<Long, NoMemory> {
+fn hops(alloc: Global) -> Long {
     let mut long = Long::new(alloc);
-    hear_hops(&mut long.play)?;
-    push_hops(alloc, &mut long.due)?;
-    Ok(long)
+    hear_hops(&mut long.play);
+    push_hops(&mut long.due);
+    long
 }
 
-fn body(alloc: Global) -> Result<Long, NoMemory> {
+fn body(alloc: Global) -> Long {
     let mut long = Long::new(alloc);
-    hear_body(&mut long.play)?;
-    push_feeds(&mut long.due)?;
-    Ok(long)
+    hear_body(&mut long.play);
+    push_feeds(&mut long.due);
+    long
 }
 
-fn output(alloc: Global, end: &[Heard], due: &str) -> Result<Long, NoMemory> {
+fn output(alloc: Global, end: &[Heard], due: &str) -> Long {
     let mut long = Long::new(alloc);
-    hear_output(&mut long.play, end)?;
-    push_output(&mut long.due, due)?;
-    Ok(long)
+    hear_output(&mut long.play, end);
+    push_output(&mut long.due, due);
+    long
+}
+
+fn is_due(log: &str, due: &Parts) -> Result<bool, NoMemory> {
+    if due.is_lost() {
+        return Err(NoMemory);
+    }
+    Ok(log == due.as_str())
 }
 
 // Whether nothing is done but what is due.
-fn goes_at(alloc: Global, site: &Site, long: Long) -> bool
+fn does(alloc: Global, site: &Site, script: Script, due: &Parts) -> Result<bool, NoMemory>
+    requires { IsServed site.now }
+{
+    let out = played(alloc, site, script, None)?;
+    is_due(out.log.as_str(), due)
+}
+
+fn goes_at(alloc: Global, site: &Site, long: Long) -> Result<bool, NoMemory>
     requires { IsServed site.now }
 {
     let Long { play, due } = long;
-    let out = drive(alloc, site, play, None);
-    out.log.as_str() == due.as_str()
+    does(alloc, site, play, &due)
 }
 
-fn goes(alloc: Global, long: Long) -> bool {
+fn goes(alloc: Global, long: Long) -> Result<bool, NoMemory> {
     match read_site(alloc, SITE.as_bytes()) {
         Ok(site) => goes_at(alloc, &site, long),
-        Err(_) => false,
+        Err(_) => Ok(false),
     }
 }
 
-fn hops_go(alloc: Global) -> Result<bool, NoMemory> {
-    let long = hops(alloc)?;
-    Ok(goes(alloc, long))
-}
-
-fn body_goes(alloc: Global) -> Result<bool, NoMemory> {
-    let long = body(alloc)?;
-    Ok(goes(alloc, long))
-}
-
-fn output_goes(alloc: Global, end: &[Heard], due: &str) -> Result<bool, NoMemory> {
-    let long = output(alloc, end, due)?;
-    Ok(goes(alloc, long))
-}
-
 // More waits to be sent than lets a script be started, and a body goes on though nobody asked for it.
-fn hear_waiting(play: &mut Script) -> Result<(), NoMemory> {
+fn hear_waiting(play: &mut Script) {
     play.hear_all(&[
         Accept,
         Client(
@@ -170,8 +170,8 @@ fn hear_waiting(play: &mut Script) -> Result<(), NoMemory> {
         OutEnd(0),
         Exited(0),
         Client("12"),
-    ])?;
-    play.mark()?;
+    ]);
+    play.mark();
     play.hear_all(&[Wrote(262_144), Started(1), Client("34"), Took(1, 4)])
 }
 
@@ -182,10 +182,14 @@ const WAITING_DUE: &str =
 fn waits_well(alloc: Global, site: &Site) -> Result<bool, NoMemory>
     requires { IsServed site.now }
 {
-    let mut play = Script::new(alloc, false);
-    hear_waiting(&mut play)?;
-    let out = drive(alloc, site, play, None);
+    let mut script = Script::new(alloc, false);
+    hear_waiting(&mut script);
+    let out = played(alloc, site, script, None)?;
     Ok(out.log.as_str().ends_with(WAITING_DUE) && out.fed.as_slice() == b"x=1234".as_slice())
+}
+
+fn output_goes(alloc: Global, end: &[Heard], due: &str) -> Result<bool, NoMemory> {
+    goes(alloc, output(alloc, end, due))
 }
 
 fn waits_at_the_site(alloc: Global) -> Result<bool, NoMemory> {
@@ -201,8 +205,8 @@ const BROKEN_DUE: &str = "Kill 0\nShut script output broken\n";
 
 #[test]
 fn long_rows_are_as_they_must_be(rt: HostRuntime) -> Result<(), Fail> {
-    assert!(rt; hops_go(rt.alloc())?);
-    assert!(rt; body_goes(rt.alloc())?);
+    assert!(rt; goes(rt.alloc(), hops(rt.alloc()))?);
+    assert!(rt; goes(rt.alloc(), body(rt.alloc()))?);
     Ok(())
 }
 

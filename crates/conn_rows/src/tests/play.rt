@@ -2,9 +2,11 @@
 ghost use Rattle.std.specs.Prelude.{◌≡◌};
 ghost use Rattle.host_base.specs.SiteRules.{IsServed};
 ghost use Rattle.reply_writer.specs.WholeRules.{IsStamp};
+ghost use Rattle.any_conn.specs.AnyConn.{may_step, site_of};
 
-use super::recorder::{Recorder, push_line};
-use super::script::{bytes_of, heard_of, is_event, words_of};
+use super::due::{other_than, text_of};
+use super::recorder::Recorder;
+use super::script::{Words, heard_of, is_event, words_of};
 use any_conn::AnyConn;
 use host_base::{Bytes, NoMemory, Peer, Site, Text};
 use host_trace::Event;
@@ -56,13 +58,18 @@ use Heard::{
 pub struct Row<'t> {
     pub name: &'t str,
     pub beats: &'t str,
-    table: &'t str,
+    pub table: &'t str,
 }
 
 /// The row of such a text.
-pub fn row_of<'t>(table: &'t str, row: &'t str) -> Row<'t> {
+fn row_of<'t>(table: &'t str, row: &'t str) -> Row<'t> {
     let (name, beats) = row.split_once('\n').unwrap_or((row, ""));
     Row { name, beats, table }
+}
+
+/// The row of a table with this number, the first one with 0.
+pub fn row_at<'t>(table: &'t str, place: usize) -> Row<'t> {
+    row_of(table, table.split("\n== ").skip(1).nth(place).unwrap_or(""))
 }
 
 pub const SITE: &str = "version = 1
@@ -101,6 +108,8 @@ pub struct Script {
     pub events: Vec<Option<Event>>,
     // What comes, comes in single bytes.
     pub single: bool,
+    // Memory was wanting.
+    lost: bool,
 }
 
 // What the clock shows, where a date can name it.
@@ -196,105 +205,167 @@ fn child_event(heard: Heard) -> Event {
     }
 }
 
+fn byte_event(alloc: Global, child: Option<u64>, byte: u8) -> Result<Event, NoMemory> {
+    let bytes = Bytes::from_slice(alloc, &[byte])?;
+    Ok(match child {
+        None => Event::ClientBytes { c: 0, bytes },
+        Some(k) => Event::ChildBytes { k, bytes },
+    })
+}
+
 impl Script {
     pub fn new(alloc: Global, single: bool) -> Self {
         Script {
             alloc,
             events: Vec::new(alloc),
             single,
+            lost: false,
         }
     }
 
-    fn add(&mut self, event: Event) -> Result<(), NoMemory> {
-        self.events.push(Some(event))?;
-        Ok(())
+    fn push(&mut self, event: Option<Event>) {
+        self.lost |= self.events.push(event).is_err();
+    }
+
+    fn add(&mut self, event: Result<Event, NoMemory>) {
+        match event {
+            Ok(event) => self.push(Some(event)),
+            Err(_) => self.lost = true,
+        }
     }
 
     // The beat ends.
-    pub fn mark(&mut self) -> Result<(), NoMemory> {
-        self.events.push(None)?;
-        Ok(())
+    pub fn mark(&mut self) {
+        self.push(None);
     }
 
     // The bytes one by one.
-    fn hear_bytes(&mut self, child: Option<u64>, text: &str) -> Result<(), NoMemory> {
+    fn hear_bytes(&mut self, child: Option<u64>, text: &str) {
         for byte in text.as_bytes() {
-            let bytes = Bytes::from_slice(self.alloc, &[*byte])?;
-            self.add(match child {
-                None => Event::ClientBytes { c: 0, bytes },
-                Some(k) => Event::ChildBytes { k, bytes },
-            })?;
+            self.add(byte_event(self.alloc, child, *byte));
         }
-        Ok(())
     }
 
-    pub fn hear(&mut self, heard: Heard) -> Result<(), NoMemory> {
+    pub fn hear(&mut self, heard: Heard) {
         match heard {
             Client(text) if self.single => self.hear_bytes(None, text),
             Out(k, text) if self.single => self.hear_bytes(Some(k), text),
             Ticks(count) => self.hear_ticks(count),
-            _ => self.hear_whole(heard),
+            _ => self.add(event_of(self.alloc, heard)),
         }
     }
 
-    pub fn hear_all(&mut self, all: &[Heard]) -> Result<(), NoMemory> {
+    pub fn hear_all(&mut self, all: &[Heard]) {
         for heard in all {
-            self.hear(*heard)?;
+            self.hear(*heard);
         }
-        Ok(())
     }
 
-    fn hear_ticks(&mut self, count: u32) -> Result<(), NoMemory> {
+    fn hear_ticks(&mut self, count: u32) {
         for _ in 0..count {
-            self.add(Event::Tick { secs: 0 })?;
+            self.push(Some(Event::Tick { secs: 0 }));
         }
-        Ok(())
     }
 
-    fn hear_whole(&mut self, heard: Heard) -> Result<(), NoMemory> {
-        let event = event_of(self.alloc, heard)?;
-        self.add(event)
+    fn hear_words(&mut self, words: &Words) {
+        if let Some(heard) = heard_of(words) {
+            self.hear(heard);
+        }
     }
 
     // What a line of a table says is heard.
-    fn hear_line(&mut self, table: &str, line: &str) -> Result<(), NoMemory> {
-        let words = words_of(self.alloc, table, line)?;
-        match heard_of(&words) {
-            Some(heard) => self.hear(heard),
-            None => Ok(()),
+    fn hear_line(&mut self, table: &str, line: &str) {
+        match words_of(self.alloc, table, line) {
+            Ok(words) => self.hear_words(&words),
+            Err(_) => self.lost = true,
         }
     }
 
-    fn beats(&mut self, row: Row) -> Result<(), NoMemory> {
-        for line in row.beats.lines() {
-            if is_event(line) {
-                self.hear_line(row.table, line)?;
-                self.mark()?;
-            }
+    fn beat(&mut self, table: &str, line: &str) {
+        if is_event(line) {
+            self.hear_line(table, line);
+            self.mark();
         }
-        Ok(())
+    }
+
+    fn beats(&mut self, row: Row) {
+        for line in row.beats.lines() {
+            self.beat(row.table, line);
+        }
     }
 }
 
-// Hands the events to a connection of the site, and hands out what was recorded.
-pub fn drive(alloc: Global, site: &Site, script: Script, refused: Option<u32>) -> Recorder
-    requires { IsServed site.now }
+// A step of a connection, of which nothing is said but that the next one may come.
+fn tell_event(
+    conn: &mut AnyConn<'_>,
+    event: Event,
+    now: Option<u64>,
+    children: &mut u64,
+    out: &mut Recorder,
+)
+    requires stamp { IsStamp now }
+    requires served { IsServed (site_of conn.old) }
+    requires talks { may_step conn.old }
+    ensures served { IsServed (site_of conn.new) }
+    ensures talks { may_step conn.new }
 {
-    let mut conn = AnyConn::new(alloc, site, 0);
-    let mut out = Recorder::new(alloc, refused);
+    conn.step(event, now, children, out);
+}
+
+// Tells the events to a connection.
+fn drive(conn: &mut AnyConn<'_>, events: Vec<Option<Event>>, out: &mut Recorder)
+    requires served { IsServed (site_of conn.old) }
+    requires talks { may_step conn.old }
+{
     let mut children = 0u64;
     let mut clock = None;
-    let Script { events, .. } = script;
     for event in events {
         match event {
             None => out.mark(),
             Some(event) => {
                 clock = secs_of(&event, clock);
-                conn.step(event, stamp_of(clock), &mut children, &mut out);
+                tell_event(conn, event, stamp_of(clock), &mut children, out);
             }
         }
     }
+}
+
+// Lets a value go.
+fn let_go<T: Drop>(_value: T) {}
+
+// Hands the events to a connection of the site, and hands out what was recorded.
+fn play(alloc: Global, site: &Site, script: Script, refused: Option<u32>) -> Recorder
+    requires { IsServed site.now }
+{
+    let Script { events, .. } = script;
+    let mut conn = AnyConn::new(alloc, site, 0);
+    let mut out = Recorder::new(alloc, refused);
+    drive(&mut conn, events, &mut out);
+    let_go(conn);
     out
+}
+
+// Plays what is heard, with an act that finds no room.
+pub fn played(
+    alloc: Global,
+    site: &Site,
+    script: Script,
+    refused: Option<u32>,
+) -> Result<Recorder, NoMemory>
+    requires { IsServed site.now }
+{
+    let lost = script.lost;
+    let out = play(alloc, site, script, refused);
+    if lost {
+        return Err(NoMemory);
+    }
+    Ok(out)
+}
+
+fn script_of(alloc: Global, row: Row, single: bool) -> Script {
+    let mut script = Script::new(alloc, single);
+    script.beats(row);
+    script
 }
 
 // Plays a row in other pieces or with an act that finds no room.
@@ -307,51 +378,7 @@ pub fn record(
 ) -> Result<Recorder, NoMemory>
     requires { IsServed site.now }
 {
-    let mut script = Script::new(alloc, single);
-    script.beats(row)?;
-    Ok(drive(alloc, site, script, refused))
-}
-
-fn push_act(alloc: Global, text: &mut String, table: &str, act: &str) -> Result<(), NoMemory> {
-    let act = bytes_of(alloc, table, act)?;
-    push_line(text, str::from_utf8(act.as_slice()).unwrap_or("no text"))
-}
-
-// Whether a line names an event.
-fn names_event(alloc: Global, table: &str, line: &str) -> Result<bool, NoMemory> {
-    let words = words_of(alloc, table, line)?;
-    Ok(heard_of(&words).is_some())
-}
-
-// What names no event is not to be heard.
-fn push_beat(alloc: Global, text: &mut String, table: &str, line: &str) -> Result<(), NoMemory> {
-    if names_event(alloc, table, line)? {
-        return Ok(());
-    }
-    push_line(text, "no event")
-}
-
-fn push_due(alloc: Global, text: &mut String, row: Row) -> Result<(), NoMemory> {
-    let mut begun = false;
-    for line in row.beats.lines() {
-        if let Some(act) = line.strip_prefix("    ") {
-            push_act(alloc, text, row.table, act)?;
-        } else if is_event(line) {
-            if begun {
-                push_line(text, "--")?;
-            }
-            begun = true;
-            push_beat(alloc, text, row.table, line)?;
-        }
-    }
-    push_line(text, "--")
-}
-
-// The acts that are due, beat by beat.
-fn due(alloc: Global, row: Row) -> Result<String, NoMemory> {
-    let mut text = String::new(alloc);
-    push_due(alloc, &mut text, row)?;
-    Ok(text)
+    played(alloc, site, script_of(alloc, row, single), refused)
 }
 
 // What a row does, where that is not what it must; nothing where it is.
@@ -359,17 +386,13 @@ fn play_at(alloc: Global, site: &Site, row: Row) -> Result<String, NoMemory>
     requires { IsServed site.now }
 {
     let out = record(alloc, site, row, false, None)?;
-    let due = due(alloc, row)?;
-    if out.log.as_str() == due.as_str() {
-        return Ok(String::new(alloc));
-    }
-    Ok(out.log)
+    other_than(alloc, row, out.log.as_str())
 }
 
 // Plays a row, and says what it does where that is not what it must.
 pub fn run_row(alloc: Global, row: Row) -> Result<String, NoMemory> {
     match read_site(alloc, SITE.as_bytes()) {
         Ok(site) => play_at(alloc, &site, row),
-        Err(_) => Ok(format!(in alloc; "no site")?),
+        Err(_) => text_of(alloc, "no site"),
     }
 }

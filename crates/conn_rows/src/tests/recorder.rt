@@ -1,27 +1,27 @@
 // An outside that writes down what it is asked for, and tells no trace.
 ghost use Rattle.std.specs.Prelude.{None};
 
-use host_base::{Bytes, Launch, NoMemory, Texts};
+use super::parts::Parts;
+use host_base::{Bytes, Launch, Texts};
 use host_trace::{Act, Acted, Event, Outside, Why};
 use std::alloc::Global;
 
 #[derive(Drop)]
 pub struct Recorder {
-    pub alloc: Global,
-    pub log: String,
+    pub log: Parts,
     // All bytes written.
     pub wrote: Bytes,
     // All bytes fed.
     pub fed: Bytes,
     // All messages said, one a line.
-    pub said: String,
+    pub said: Parts,
     // What children are started with: program, folder, arguments and variables, one a line.
-    pub launched: String,
+    pub launched: Parts,
     // Acts that carry something, so far.
     pub carried: u32,
     // The one of them that finds no room.
     pub refused: Option<u32>,
-    // No memory was found to write an act down.
+    // No memory was found for what was written or fed.
     pub failed: bool,
 }
 
@@ -37,60 +37,52 @@ pub fn why_text(why: Why) -> &'static str {
     }
 }
 
-pub fn push_line(text: &mut String, line: &str) -> Result<(), NoMemory> {
-    text.push_str(line)?;
-    text.push('\n')?;
-    Ok(())
+fn push_args(text: &mut Parts, launch: &Launch) {
+    for arg in launch.args.as_slice() {
+        text.push_line(arg.as_str());
+    }
+}
+
+fn push_variables(text: &mut Parts, launch: &Launch) {
+    for pair in launch.env.as_slice() {
+        text.push(pair.name.as_str());
+        text.push("=");
+        text.push_line(pair.value.as_str());
+    }
+}
+
+fn push_launch(text: &mut Parts, launch: &Launch) {
+    text.push_line(launch.program.as_str());
+    text.push_line(launch.dir.as_str());
+    push_args(text, launch);
+    push_variables(text, launch);
 }
 
 impl Recorder {
     pub fn new(alloc: Global, refused: Option<u32>) -> Self {
         Recorder {
-            alloc,
-            log: String::new(alloc),
+            log: Parts::new(alloc),
             wrote: Bytes::new(alloc),
             fed: Bytes::new(alloc),
-            said: String::new(alloc),
-            launched: String::new(alloc),
+            said: Parts::new(alloc),
+            launched: Parts::new(alloc),
             carried: 0,
             refused,
             failed: false,
         }
     }
 
-    fn line(&mut self, line: &str) -> Result<(), NoMemory> {
-        push_line(&mut self.log, line)
-    }
-
     // An act and its number.
-    fn numbered(&mut self, act: &str, k: u64) -> Result<(), NoMemory> {
-        let line = format!(in self.alloc; "{act} {k}")?;
-        self.line(line.as_str())
-    }
-
-    fn launch(&mut self, launch: &Launch) -> Result<(), NoMemory> {
-        push_line(&mut self.launched, launch.program.as_str())?;
-        push_line(&mut self.launched, launch.dir.as_str())?;
-        for arg in launch.args.as_slice() {
-            push_line(&mut self.launched, arg.as_str())?;
-        }
-        self.variables(launch)
-    }
-
-    fn variables(&mut self, launch: &Launch) -> Result<(), NoMemory> {
-        for pair in launch.env.as_slice() {
-            self.launched.push_str(pair.name.as_str())?;
-            self.launched.push('=')?;
-            push_line(&mut self.launched, pair.value.as_str())?;
-        }
-        Ok(())
+    fn numbered(&mut self, act: &str, k: u64) {
+        self.log.push(act);
+        self.log.push(" ");
+        self.log.push_number(u128::from(k));
+        self.log.push("\n");
     }
 
     // A beat ends.
     pub fn mark(&mut self) {
-        if self.log.push_str("--\n").is_err() {
-            self.failed = true;
-        }
+        self.log.push("--\n");
     }
 
     fn refuses(&mut self) -> bool {
@@ -99,10 +91,10 @@ impl Recorder {
         self.refused == Some(at)
     }
 
-    fn note(&mut self, act: &Act) -> Result<(), NoMemory> {
+    fn note(&mut self, act: &Act) {
         match act {
-            Act::WantClient { .. } => self.line("WantClient"),
-            Act::Write { bytes, .. } => self.write(bytes),
+            Act::WantClient { .. } => self.log.push_line("WantClient"),
+            Act::Write { bytes, .. } => self.write(bytes.as_slice()),
             Act::Shut { why, .. } => self.shut(why_text(*why)),
             Act::Start {
                 k,
@@ -110,10 +102,14 @@ impl Recorder {
                 hop,
                 launch,
                 ..
-            } => {
-                self.launch(launch)?;
-                self.start(*k, *j, *hop, launch.program.as_str())
-            }
+            } => self.start(*k, *j, *hop, launch),
+            _ => self.note_child(act),
+        }
+    }
+
+    // An act on a child.
+    fn note_child(&mut self, act: &Act) {
+        match act {
             Act::Feed { k, bytes } => self.feed(*k, bytes.as_slice()),
             Act::EndInput { k } => self.numbered("EndInput", *k),
             Act::WantChild { k } => self.numbered("WantChild", *k),
@@ -123,54 +119,68 @@ impl Recorder {
         }
     }
 
-    fn write(&mut self, bytes: &Bytes) -> Result<(), NoMemory> {
-        self.wrote.extend_from_slice(bytes.as_slice())?;
-        self.log.push_str("Write ")?;
-        let text = String::from_utf8_lossy(self.alloc, bytes.as_slice())?;
-        self.line(text.as_str())
+    fn write(&mut self, bytes: &[u8]) {
+        self.failed |= self.wrote.extend_from_slice(bytes).is_err();
+        self.log.push("Write ");
+        self.log.push_bytes(bytes);
+        self.log.push("\n");
     }
 
-    fn shut(&mut self, why: &str) -> Result<(), NoMemory> {
-        self.log.push_str("Shut ")?;
-        self.line(why)
+    fn shut(&mut self, why: &str) {
+        self.log.push("Shut ");
+        self.log.push_line(why);
     }
 
-    fn start(&mut self, k: u64, j: u128, hop: u32, program: &str) -> Result<(), NoMemory> {
-        let line = format!(in self.alloc; "Start {k} {j} {hop} {program}")?;
-        self.line(line.as_str())
+    fn start(&mut self, k: u64, j: u128, hop: u32, launch: &Launch) {
+        push_launch(&mut self.launched, launch);
+        self.log.push("Start ");
+        self.log.push_number(u128::from(k));
+        self.log.push(" ");
+        self.log.push_number(j);
+        self.log.push(" ");
+        self.log.push_number(u128::from(hop));
+        self.log.push(" ");
+        self.log.push_line(launch.program.as_str());
     }
 
-    fn feed(&mut self, k: u64, bytes: &[u8]) -> Result<(), NoMemory> {
-        self.fed.extend_from_slice(bytes)?;
-        let line = format!(in self.alloc; "Feed {k} {}", bytes.len())?;
-        self.line(line.as_str())
+    fn feed(&mut self, k: u64, bytes: &[u8]) {
+        self.failed |= self.fed.extend_from_slice(bytes).is_err();
+        self.log.push("Feed ");
+        self.log.push_number(u128::from(k));
+        self.log.push(" ");
+        self.log.push_number(bytes.len() as u128);
+        self.log.push("\n");
     }
 
     // An act of a WebSocket.
-    fn note_talk(&mut self, act: &Act) -> Result<(), NoMemory> {
+    fn note_talk(&mut self, act: &Act) {
         match act {
-            Act::Upgrade { rest, .. } => self.upgrade(rest),
+            Act::Upgrade { rest, .. } => self.upgrade(rest.as_slice()),
             Act::Says { texts, .. } => self.say(texts),
             Act::CloseWs { code, .. } => self.numbered("CloseWs", u64::from(*code)),
-            _ => Ok(()),
+            _ => {}
         }
     }
 
-    fn upgrade(&mut self, rest: &Bytes) -> Result<(), NoMemory> {
-        let text = String::from_utf8_lossy(self.alloc, rest.as_slice())?;
-        let line = format!(in self.alloc; "Upgrade <{}>", text.as_str())?;
-        self.line(line.as_str())
+    fn upgrade(&mut self, rest: &[u8]) {
+        self.log.push("Upgrade <");
+        self.log.push_bytes(rest);
+        self.log.push_line(">");
     }
 
-    fn say(&mut self, texts: &Texts) -> Result<(), NoMemory> {
-        self.log.push_str("Says")?;
+    fn say_text(&mut self, text: &str) {
+        self.said.push_line(text);
+        self.log.push(" <");
+        self.log.push(text);
+        self.log.push(">");
+    }
+
+    fn say(&mut self, texts: &Texts) {
+        self.log.push("Says");
         for text in texts.as_slice() {
-            push_line(&mut self.said, text.as_str())?;
-            self.log.push_str(" <")?;
-            self.log.push_str(text.as_str())?;
-            self.log.push('>')?;
+            self.say_text(text.as_str());
         }
-        self.line("")
+        self.log.push("\n");
     }
 }
 
@@ -197,12 +207,10 @@ impl Outside for Recorder {
                 | Act::Says { .. }
         );
         if carries && self.refuses() {
-            self.failed |= push_line(&mut self.log, "no room").is_err();
+            self.log.push_line("no room");
             return Acted::NoRoom;
         }
-        if self.note(act).is_err() {
-            self.failed = true;
-        }
+        self.note(act);
         Acted::Done
     }
 }

@@ -114,70 +114,92 @@ fn number_of(text: &str) -> u64 {
     text.parse::<u64>().unwrap_or(0)
 }
 
+// A word, and what stands behind the blank that follows it.
+fn cut(text: &str) -> (&str, &str) {
+    text.split_once(' ').unwrap_or((text, ""))
+}
+
 pub fn words_of<'t>(alloc: Global, table: &str, line: &'t str) -> Result<Words<'t>, NoMemory> {
-    let (name, rest) = line.split_once(' ').unwrap_or((line, ""));
-    let (number, text) = rest.split_once(' ').unwrap_or((rest, ""));
-    let (count, front) = text.split_once(' ').unwrap_or((text, ""));
+    let (name, rest) = cut(line);
+    let (number, text) = cut(rest);
+    let (count, front) = cut(text);
+    let text = bytes_of(alloc, table, text)?;
+    let front = bytes_of(alloc, table, front)?;
     Ok(Words {
         name,
         number: number_of(number),
         count: number_of(count),
-        text: bytes_of(alloc, table, text)?,
-        front: bytes_of(alloc, table, front)?,
+        text,
+        front,
     })
 }
 
-fn of_child<'t>(words: &'t Words) -> Option<Heard<'t>> {
+// Events by their names, still without what they bring.
+static NAMES: [(&str, Heard); 25] = [
+    ("Started", Heard::Started(0)),
+    ("StartFailed", Heard::StartFailed(0)),
+    ("StartFull", Heard::StartFull(0, 0)),
+    ("Out", Heard::Out(0, "")),
+    ("OutEnd", Heard::OutEnd(0)),
+    ("OutBroken", Heard::OutBroken(0)),
+    ("OutFill", Heard::OutFill(0, "", 0)),
+    ("Took", Heard::Took(0, 0)),
+    ("InGone", Heard::InGone(0)),
+    ("Exited", Heard::Exited(0)),
+    ("Accept", Heard::Accept),
+    ("Client", Heard::Client("")),
+    ("Fill", Heard::Fill(0, 0)),
+    ("End", Heard::End),
+    ("Gone", Heard::Gone),
+    ("Wrote", Heard::Wrote(0)),
+    ("Tick", Heard::Tick(0)),
+    ("Ticks", Heard::Ticks(0)),
+    ("NoRoom", Heard::NoRoom),
+    ("Stop", Heard::Stop),
+    ("Message", Heard::Message("")),
+    ("MessageFill", Heard::MessageFill(0)),
+    ("Binary", Heard::Binary),
+    ("Closed", Heard::Closed),
+    ("Refused", Heard::Refused),
+];
+
+fn named(name: &str) -> Option<Heard<'static>> {
+    for event in NAMES.as_slice() {
+        if event.0 == name {
+            return Some(event.1);
+        }
+    }
+    None
+}
+
+fn of_child<'t>(named: Heard<'static>, words: &'t Words) -> Option<Heard<'t>> {
     let k = words.number;
-    Some(match words.name {
-        "Started" => Heard::Started(k),
-        "StartFailed" => Heard::StartFailed(k),
-        "StartFull" => Heard::StartFull(k, u32::try_from(words.count).ok()?),
-        "Out" => Heard::Out(k, words.text()),
-        "OutEnd" => Heard::OutEnd(k),
-        "OutBroken" => Heard::OutBroken(k),
-        "OutFill" => Heard::OutFill(k, words.front(), words.count as usize),
-        "Took" => Heard::Took(k, words.count),
-        "InGone" => Heard::InGone(k),
-        "Exited" => Heard::Exited(k),
-        _ => return None,
-    })
-}
-
-fn of_client<'t>(words: &'t Words) -> Option<Heard<'t>> {
-    Some(match words.name {
-        "Accept" => Heard::Accept,
-        "Client" => Heard::Client(words.text()),
-        "Fill" => Heard::Fill(u8::try_from(words.number).ok()?, words.count as usize),
-        "End" => Heard::End,
-        "Gone" => Heard::Gone,
-        "Wrote" => Heard::Wrote(words.count),
-        "Tick" => Heard::Tick(words.number),
-        "Ticks" => Heard::Ticks(u32::try_from(words.number).ok()?),
-        "NoRoom" => Heard::NoRoom,
-        "Stop" => Heard::Stop,
-        _ => return None,
-    })
-}
-
-fn of_talk<'t>(words: &'t Words) -> Option<Heard<'t>> {
-    Some(match words.name {
-        "Message" => Heard::Message(words.text()),
-        "MessageFill" => Heard::MessageFill(words.count as usize),
-        "Binary" => Heard::Binary,
-        "Closed" => Heard::Closed,
-        "Refused" => Heard::Refused,
-        _ => return None,
+    Some(match named {
+        Heard::Started(_) => Heard::Started(k),
+        Heard::StartFailed(_) => Heard::StartFailed(k),
+        Heard::StartFull(_, _) => Heard::StartFull(k, u32::try_from(words.count).ok()?),
+        Heard::Out(_, _) => Heard::Out(k, words.text()),
+        Heard::OutEnd(_) => Heard::OutEnd(k),
+        Heard::OutBroken(_) => Heard::OutBroken(k),
+        Heard::OutFill(_, _, _) => Heard::OutFill(k, words.front(), words.count as usize),
+        Heard::Took(_, _) => Heard::Took(k, words.count),
+        Heard::InGone(_) => Heard::InGone(k),
+        Heard::Exited(_) => Heard::Exited(k),
+        _ => named,
     })
 }
 
 /// The event of these words; none where no event has this name.
 pub fn heard_of<'t>(words: &'t Words) -> Option<Heard<'t>> {
-    match of_child(words) {
-        Some(heard) => Some(heard),
-        None => match of_client(words) {
-            Some(heard) => Some(heard),
-            None => of_talk(words),
-        },
-    }
+    let named = named(words.name)?;
+    Some(match named {
+        Heard::Client(_) => Heard::Client(words.text()),
+        Heard::Fill(_, _) => Heard::Fill(u8::try_from(words.number).ok()?, words.count as usize),
+        Heard::Wrote(_) => Heard::Wrote(words.count),
+        Heard::Tick(_) => Heard::Tick(words.number),
+        Heard::Ticks(_) => Heard::Ticks(u32::try_from(words.number).ok()?),
+        Heard::Message(_) => Heard::Message(words.text()),
+        Heard::MessageFill(_) => Heard::MessageFill(words.count as usize),
+        _ => return of_child(named, words),
+    })
 }

@@ -1,7 +1,7 @@
 // A handshake, and what is said over the WebSocket then (RFC 6455 4.2.2).
 ghost use Rattle.host_base.specs.SiteRules.{IsServed};
 
-use super::play::{Row, record, row_of};
+use super::play::{Row, record, row_at};
 use super::{count_of, rows_go};
 use host_base::{NoMemory, Site};
 use site_file::read_site;
@@ -421,25 +421,27 @@ Out 0 abcd\nabcde
 
 const TALK_END: &str = "CloseWs 1011\nEndInput 0\nKill 0\nShut Done\n--\n";
 
-fn long_line<'t>(table: &'t str) -> Row<'t> {
-    row_of(table, table.split("\n== ").nth(1).unwrap_or(""))
-}
-
 // Whether the first line is said, and the talk ended by the second one.
 fn ends_at_the_line(alloc: Global, site: &Site, single: bool) -> Result<bool, NoMemory>
     requires { IsServed site.now }
 {
-    let row = long_line(TOO_LONG);
-    let out = record(alloc, site, row, single, None)?;
+    let out = record(alloc, site, row_at(TOO_LONG, 0), single, None)?;
     Ok(out.said.as_str() == "abcd\n" && out.log.as_str().ends_with(TALK_END))
 }
 
 // .. in one piece and in single bytes.
-fn ends_in_both(alloc: Global) -> Result<bool, NoMemory> {
+fn ends_in_both(alloc: Global, site: &Site) -> Result<bool, NoMemory>
+    requires { IsServed site.now }
+{
+    if !ends_at_the_line(alloc, site, false)? {
+        return Ok(false);
+    }
+    ends_at_the_line(alloc, site, true)
+}
+
+fn ends_at_the_site(alloc: Global) -> Result<bool, NoMemory> {
     match read_site(alloc, SHORT_LINES.as_bytes()) {
-        Ok(site) => Ok(
-            ends_at_the_line(alloc, &site, false)? && ends_at_the_line(alloc, &site, true)?,
-        ),
+        Ok(site) => ends_in_both(alloc, &site),
         Err(_) => Ok(false),
     }
 }
@@ -447,6 +449,6 @@ fn ends_in_both(alloc: Global) -> Result<bool, NoMemory> {
 #[test]
 fn a_line_that_is_too_long_ends_a_talk(rt: HostRuntime) -> Result<(), Fail> {
     assert_eq!(rt; count_of(TOO_LONG), 1);
-    assert!(rt; ends_in_both(rt.alloc())?);
+    assert!(rt; ends_at_the_site(rt.alloc())?);
     Ok(())
 }

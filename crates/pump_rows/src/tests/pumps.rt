@@ -31,16 +31,17 @@ fn has_taken(tap: &mut Tap, ring: RingEnd, taken: &[u8]) -> bool
         && tap.take(&mut into) == 0
 }
 
-// Whether the pump of this pipe ends so, and what it gave is taken.
+// Whether the pump of a pipe ends so, which gives these pieces and fails or not, and what it gave is taken.
 fn pumps_out<R: Wait>(
     rt: &R,
     alloc: Global,
-    pipe: Pieces,
+    pieces: &[&[u8]],
+    fails: bool,
     end: PumpEnd,
     taken: &[u8],
 ) -> Result<bool, NoMemory> {
+    let pipe = Pieces::new(alloc, pieces, fails)?;
     let (ring, mut tap) = rings(alloc, 16)?;
-    let fails = pipe.fails;
     let done = pump_out(rt, pipe, ring);
     let ended = done.end == end && done.pipe.faults == u64::from(fails);
     Ok(has_taken(&mut tap, done.ring, taken) && ended)
@@ -57,9 +58,8 @@ fn what_a_pipe_gives_is_taken(rt: HostRuntime) -> Result<(), Fail> {
         (&[], true, PumpEnd::Broken, b""),
     ];
     for (pieces, fails, end, taken) in rows {
-        let pipe = Pieces::new(alloc, pieces, fails)?;
         assert!(rt;
-            pumps_out(&rt, alloc, pipe, end, taken)?,
+            pumps_out(&rt, alloc, pieces, fails, end, taken)?,
             "{pieces:?} {fails}"
         );
     }
@@ -126,21 +126,19 @@ fn end_without_tap<R: Wait>(rt: &R, alloc: Global) -> Result<PumpEnd, NoMemory> 
     Ok(pump_out(rt, pipe, ring).end)
 }
 
-// How a pump ends whose feeder is gone, and what its pipe took.
-fn end_without_feeder<R: Wait>(rt: &R, alloc: Global) -> Result<(PumpEnd, Vec<u8>), NoMemory> {
+// Whether a pump whose feeder is gone is abandoned, and its pipe took what was fed.
+fn is_abandoned<R: Wait>(rt: &R, alloc: Global) -> Result<bool, NoMemory> {
     let (mut feeder, ring) = feed_rings(alloc, 8)?;
     feeder.feed(b"abc");
     drop(feeder);
     let done = pump_in(rt, ring, Drain::new(alloc, 9));
-    Ok((done.end, done.pipe.taken))
+    Ok(done.end == PumpEnd::Abandoned && done.pipe.taken.as_slice() == b"abc".as_slice())
 }
 
 #[test]
 fn a_ring_whose_other_end_is_gone(rt: HostRuntime) -> Result<(), Fail> {
     assert_eq!(rt; end_without_tap(&rt, rt.alloc())?, PumpEnd::Abandoned);
-    let (end, taken) = end_without_feeder(&rt, rt.alloc())?;
-    assert_eq!(rt; end, PumpEnd::Abandoned);
-    assert_eq!(rt; taken.as_slice(), b"abc".as_slice());
+    assert!(rt; is_abandoned(&rt, rt.alloc())?);
     Ok(())
 }
 
@@ -170,18 +168,31 @@ fn are_fed<R: Threads + Wait + Copy + Drop + Send + 'static>(
     Ok(end == PumpEnd::AtEnd && taken.as_slice() == bytes)
 }
 
+// Whether so many bytes come whole through rings of this size, from a pipe and to one.
+fn come_whole<R: Threads + Wait + Copy + Drop + Send + 'static>(
+    rt: &R,
+    alloc: Global,
+    size: usize,
+    count: usize,
+) -> Result<bool, Fail>
+    requires { 0 < size }
+{
+    let bytes = counted(alloc, count)?;
+    Ok(
+        are_relayed(rt, alloc, bytes.as_slice(), size)?
+            && are_fed(rt, alloc, bytes.as_slice(), size)?,
+    )
+}
+
 #[test]
 fn pumps_in_threads_of_their_own(rt: HostRuntime) -> Result<(), Fail> {
-    let alloc = rt.alloc();
     for (size, count) in [
         (1usize, 300usize),
         (7, 3_000),
         (4_096, 30_000),
         (70_000, 200_000),
     ] {
-        let bytes = counted(alloc, count)?;
-        assert!(rt; are_relayed(&rt, alloc, bytes.as_slice(), size)?, "{size}");
-        assert!(rt; are_fed(&rt, alloc, bytes.as_slice(), size)?, "{size}");
+        assert!(rt; come_whole(&rt, rt.alloc(), size, count)?, "{size}");
     }
     Ok(())
 }

@@ -1,6 +1,6 @@
 // Tables as text: a row is a line, and its cells stand between `|`. A line that begins with `//` is a comment. In a cell \n, \r,
 // \t, \0 and \xHH are bytes, as in Rust, and blanks at its ends are left out.
-use host_base::{Fields, NoMemory};
+use host_base::{Cause, Field, Fields, NoMemory};
 use std::alloc::Global;
 use std::process::Abort;
 use std::test::Fail;
@@ -10,8 +10,8 @@ fn is_row(line: &str) -> bool {
     !line.is_empty() && !line.starts_with("//")
 }
 
-/// How many rows a table has.
-pub fn count_of(table: &str) -> usize {
+// How many rows a table has.
+fn count_of(table: &str) -> usize {
     let mut count: usize = 0;
     for line in table.lines() {
         if is_row(line) {
@@ -129,15 +129,33 @@ impl Cells {
     pub fn are_fields(&self, from: usize, fields: &Fields) -> bool {
         let mut place = from;
         for field in fields.as_slice() {
-            if field.name.as_slice() != self.at(place)
-                || field.value.as_slice() != self.at(place.saturating_add(1))
-            {
+            if !self.is_field(place, field) {
                 return false;
             }
             place = place.saturating_add(2);
         }
         place == self.len()
     }
+
+    fn is_field(&self, place: usize, field: &Field) -> bool {
+        field.name.as_slice() == self.at(place)
+            && field.value.as_slice() == self.at(place.saturating_add(1))
+    }
+
+    /// Whether a cell is the name of a cause.
+    pub fn names(&self, alloc: Global, place: usize, cause: Cause) -> Result<bool, NoMemory> {
+        Ok(self.is(place, format!(in alloc; "{cause:?}")?.as_str()))
+    }
+}
+
+fn is_right_row<F: Fn(Global, &Cells) -> Result<bool, NoMemory>>(
+    alloc: Global,
+    row: &str,
+    is_right: &F,
+) -> Result<bool, NoMemory>
+    requires { F.IsAlwaysCallable is_right.now }
+{
+    is_right(alloc, &Cells::new(alloc, row)?)
 }
 
 // The first row of a table whose cells are not right; nothing where all are.
@@ -149,11 +167,21 @@ fn wrong_row<F: Fn(Global, &Cells) -> Result<bool, NoMemory>>(
     requires { F.IsAlwaysCallable is_right }
 {
     for row in table.lines() {
-        if is_row(row) && !is_right(alloc, &Cells::new(alloc, row)?)? {
+        if is_row(row) && !is_right_row(alloc, row, &is_right)? {
             return Ok(row);
         }
     }
     Ok("")
+}
+
+/// A table has so many rows.
+pub fn has_count<R: Abort>(rt: &R, table: &str, count: usize) {
+    assert_eq!(rt; count_of(table), count);
+}
+
+/// There is no wrong row.
+pub fn is_nothing<R: Abort>(rt: &R, wrong: &str) {
+    assert_eq!(rt; wrong, "");
 }
 
 /// Each row of a table of so many is right.
@@ -166,7 +194,7 @@ pub fn are_right<R: Abort, F: Fn(Global, &Cells) -> Result<bool, NoMemory>>(
 ) -> Result<(), Fail>
     requires { F.IsAlwaysCallable is_right }
 {
-    assert_eq!(rt; count_of(table), count);
-    assert_eq!(rt; wrong_row(alloc, table, is_right)?, "");
+    has_count(rt, table, count);
+    is_nothing(rt, wrong_row(alloc, table, is_right)?);
     Ok(())
 }

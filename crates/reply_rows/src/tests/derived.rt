@@ -1,5 +1,8 @@
 // What outputs derive, whole and cut at each place.
+ghost use Rattle.std.specs.Prelude.{◌≢◌};
+
 use super::cells::{Cells, are_right};
+use super::values::joined;
 use cgi_header::{CgiHead, HdrStep, read_header};
 use host_base::{Cause, NoMemory, Reply, ScriptKind};
 use reply_kinds::{Derived, ReplyKind, derive, kind_of, reply_of};
@@ -109,7 +112,7 @@ fn is_bad_so(
     row: &Cells,
 ) -> Result<bool, NoMemory> {
     match derived {
-        Ok(Derived::Bad(given)) => Ok(row.is(1, format!(in alloc; "{given:?}")?.as_str())),
+        Ok(Derived::Bad(given)) => row.names(alloc, 1, *given),
         _ => Ok(false),
     }
 }
@@ -144,73 +147,96 @@ fn open_cause(count: usize) -> Cause {
     }
 }
 
-fn output(alloc: Global, header: &[u8], body: &[u8]) -> Result<Vec<u8>, NoMemory> {
-    let mut output = Vec::from_slice(alloc, header)?;
-    output.extend_from_slice(body)?;
-    Ok(output)
+fn derived(alloc: Global, kind: ScriptKind, output: &[u8]) -> Result<Derived, NoMemory> {
+    derive(alloc, kind, output)
 }
 
 const BODY: &[u8] = b"a\n\nStatus: 500\n\n\xff";
 
-// Whether each front of the output that has the header whole gives its reply, and no other front does.
-fn replies_however_it_ends(alloc: Global, row: &Cells) -> Result<bool, NoMemory> {
-    let output = output(alloc, row.at(0), BODY)?;
-    let len = row.at(0).len();
+fn is_right_of(derived: &Result<Derived, NoMemory>, row: &Cells, front: &[u8]) -> bool {
+    match front.get(row.at(0).len()..) {
+        Some(body) => derives_reply(derived, row, body),
+        None => is_bad(derived, open_cause(front.len())),
+    }
+}
+
+// Whether a front of the output gives the row's reply where it has the header whole, and none where it has not.
+fn is_right_front(alloc: Global, row: &Cells, front: &[u8]) -> bool {
+    is_right_of(&derived(alloc, ScriptKind::Cgi, front), row, front)
+}
+
+fn are_right_fronts(alloc: Global, row: &Cells, output: &[u8]) -> bool {
     for count in 0..output.len() + 1 {
-        let front = &output.as_slice()[..count];
-        let derived = derive(alloc, ScriptKind::Cgi, front);
-        let right = if count < len {
-            is_bad(&derived, open_cause(count))
-        } else {
-            derives_reply(&derived, row, &front[len..])
-        };
-        if !right {
-            return Ok(false);
+        if !is_right_front(alloc, row, &output[..count]) {
+            return false;
         }
     }
-    Ok(true)
+    true
+}
+
+// Whether each front of the output that has the header whole gives its reply, and no other front does.
+fn replies_however_it_ends(alloc: Global, row: &Cells) -> Result<bool, NoMemory> {
+    let output = joined(alloc, row.at(0), BODY)?;
+    Ok(are_right_fronts(alloc, row, output.as_slice()))
 }
 
 fn is_kind(alloc: Global, kind: ReplyKind, row: &Cells) -> Result<bool, NoMemory> {
     Ok(row.is(1, format!(in alloc; "{kind:?}")?.as_str()))
 }
 
+fn is_reply_of(
+    alloc: Global,
+    head: &CgiHead,
+    kind: ReplyKind,
+    row: &Cells,
+) -> Result<bool, NoMemory>
+    requires { kind ≢ ReplyKind.LocalRedirect }
+{
+    Ok(is_reply(&reply_of(alloc, head, kind, BODY)?, row, BODY))
+}
+
 fn is_of_kind(alloc: Global, head: &CgiHead, row: &Cells) -> Result<bool, NoMemory> {
     match kind_of(head) {
         Ok(kind) if kind != ReplyKind::LocalRedirect => {
-            let reply = reply_of(alloc, head, kind, BODY)?;
-            Ok(is_reply(&reply, row, BODY) && is_kind(alloc, kind, row)?)
+            Ok(is_kind(alloc, kind, row)? && is_reply_of(alloc, head, kind, row)?)
         }
+        _ => Ok(false),
+    }
+}
+
+fn is_step_of_kind(alloc: Global, step: &HdrStep, row: &Cells) -> Result<bool, NoMemory> {
+    match step {
+        HdrStep::Whole { head, .. } => is_of_kind(alloc, head, row),
         _ => Ok(false),
     }
 }
 
 // Whether the header has the kind of its row, and gives the row's reply with a body.
 fn has_kind(alloc: Global, row: &Cells) -> Result<bool, NoMemory> {
-    match read_header(alloc, row.at(0))? {
-        HdrStep::Whole { head, .. } => is_of_kind(alloc, &head, row),
-        _ => Ok(false),
-    }
+    is_step_of_kind(alloc, &read_header(alloc, row.at(0))?, row)
+}
+
+fn is_right(alloc: Global, row: &Cells) -> Result<bool, NoMemory> {
+    Ok(has_kind(alloc, row)? && replies_however_it_ends(alloc, row)?)
 }
 
 #[test]
-fn replies(rt: HostRuntime) -> Result<(), Fail> {
-    are_right(&rt, rt.alloc(), REPLIES, 34, replies_however_it_ends)
-}
-
-#[test]
-fn kinds(rt: HostRuntime) -> Result<(), Fail> {
-    are_right(&rt, rt.alloc(), REPLIES, 34, has_kind)
+fn replies_and_kinds(rt: HostRuntime) -> Result<(), Fail> {
+    are_right(&rt, rt.alloc(), REPLIES, 34, is_right)
 }
 
 // What the header derives, with this behind it.
 fn derived_of(alloc: Global, row: &Cells, body: &[u8]) -> Result<Derived, NoMemory> {
-    let output = output(alloc, row.at(0), body)?;
-    derive(alloc, ScriptKind::Cgi, output.as_slice())
+    let output = joined(alloc, row.at(0), body)?;
+    derived(alloc, ScriptKind::Cgi, output.as_slice())
+}
+
+fn hops_with(alloc: Global, row: &Cells, body: &[u8]) -> bool {
+    is_hop(&derived_of(alloc, row, body), row)
 }
 
 fn hops(alloc: Global, row: &Cells) -> Result<bool, NoMemory> {
-    Ok(is_hop(&derived_of(alloc, row, b""), row) && is_hop(&derived_of(alloc, row, BODY), row))
+    Ok(hops_with(alloc, row, b"") && hops_with(alloc, row, BODY))
 }
 
 fn is_refused_with(alloc: Global, row: &Cells, body: &[u8]) -> Result<bool, NoMemory> {
@@ -231,17 +257,17 @@ fn refusals(rt: HostRuntime) -> Result<(), Fail> {
     are_right(&rt, rt.alloc(), REFUSED, 19, is_refused)
 }
 
-// What a script writes is the reply where it writes its own, and none where it speaks WebSocket.
-fn is_own(alloc: Global, output: &[u8]) -> bool {
-    is_raw(&derive(alloc, ScriptKind::Nph, output), output)
-        && is_bad(
-            &derive(alloc, ScriptKind::WebSocket, output),
-            Cause::NoOutput,
-        )
+fn gives_raw(alloc: Global, output: &[u8]) -> bool {
+    is_raw(&derived(alloc, ScriptKind::Nph, output), output)
 }
 
-fn is_none(alloc: Global, kind: ScriptKind) -> bool {
-    is_bad(&derive(alloc, kind, b""), Cause::NoOutput)
+fn gives_none(alloc: Global, kind: ScriptKind, output: &[u8]) -> bool {
+    is_bad(&derived(alloc, kind, output), Cause::NoOutput)
+}
+
+// What a script writes is the reply where it writes its own, and none where it speaks WebSocket.
+fn is_own(alloc: Global, output: &[u8]) -> bool {
+    gives_raw(alloc, output) && gives_none(alloc, ScriptKind::WebSocket, output)
 }
 
 #[test]
@@ -260,7 +286,7 @@ fn raw_replies(rt: HostRuntime) -> Result<(), Fail> {
 #[test]
 fn no_output_of_any_kind(rt: HostRuntime) -> Result<(), Fail> {
     for kind in [ScriptKind::Cgi, ScriptKind::Nph, ScriptKind::WebSocket] {
-        assert!(rt; is_none(rt.alloc(), kind), "{kind:?}");
+        assert!(rt; gives_none(rt.alloc(), kind, b""), "{kind:?}");
     }
     Ok(())
 }

@@ -1,6 +1,7 @@
 // What the reply of a leg writes, and how it closes. Each row is told as it stands.
 ghost use Rattle.reply_writer.specs.WholeRules.{IsStamp};
 
+use super::values::bytes_of;
 use exchange_reply::{LegReply, fault_text};
 use host_base::{Bytes, Cause, NoMemory, ScriptKind, Version};
 use reply_stream::{Asked, Last};
@@ -110,41 +111,85 @@ const ROWS: [Row; 6] = [
     ),
 ];
 
+fn new_reply(alloc: Global, asked: Asked) -> LegReply {
+    LegReply::new(alloc, asked)
+}
+
+fn hear(
+    alloc: Global,
+    reply: &mut LegReply,
+    piece: &[u8],
+    closes: bool,
+) -> Result<Bytes, NoMemory> {
+    let piece = bytes_of(alloc, piece)?;
+    reply.hear(piece, closes, None)
+}
+
+fn tick(reply: &mut LegReply, closes: bool) -> Result<Bytes, NoMemory> {
+    reply.tick(closes, None)
+}
+
+fn end(reply: LegReply) -> Result<Last, NoMemory> {
+    reply.end(true, None)
+}
+
+fn is_written(last: &Last, due: &str) -> bool {
+    match last {
+        Last::Written(text) => text.as_slice() == due.as_bytes(),
+        Last::Hop(_) | Last::Bad(_) => false,
+    }
+}
+
+fn closes(reply: &LegReply) -> bool {
+    reply.closes(true)
+}
+
 // Whether the end is as the row says.
 fn ends_as(reply: LegReply, row: &Row) -> Result<bool, NoMemory> {
-    if reply.closes(true) != row.3 {
-        return Ok(false);
+    let closes = closes(&reply);
+    Ok(is_written(&end(reply)?, row.2) && closes == row.3)
+}
+
+fn hears(
+    alloc: Global,
+    reply: &mut LegReply,
+    piece: &str,
+    closes: bool,
+    due: &str,
+) -> Result<bool, NoMemory> {
+    Ok(hear(alloc, reply, piece.as_bytes(), closes)?.as_slice() == due.as_bytes())
+}
+
+fn ticks(reply: &mut LegReply, closes: bool, due: &str) -> Result<bool, NoMemory> {
+    Ok(tick(reply, closes)?.as_slice() == due.as_bytes())
+}
+
+fn is_told(alloc: Global, reply: &mut LegReply, told: Told) -> Result<bool, NoMemory> {
+    match told {
+        Piece(piece, closes, due) => hears(alloc, reply, piece, closes, due),
+        Tick(closes, due) => ticks(reply, closes, due),
     }
-    match reply.end(true, None)? {
-        Last::Written(text) => Ok(text.as_slice() == row.2.as_bytes()),
-        Last::Hop(_) | Last::Bad(_) => Ok(false),
+}
+
+fn are_told(alloc: Global, reply: &mut LegReply, all: &[Told]) -> Result<bool, NoMemory> {
+    for told in all {
+        if !is_told(alloc, reply, *told)? {
+            return Ok(false);
+        }
     }
+    Ok(true)
 }
 
 // Whether each thing that is told is answered as its row says, and the end too.
 fn is_answered(alloc: Global, row: &Row) -> Result<bool, NoMemory> {
-    let mut reply = LegReply::new(alloc, row.0);
-    for told in row.1.iter() {
-        let (written, expected) = match told {
-            Piece(piece, closes, expected) => {
-                let piece = Bytes::from_slice(alloc, piece.as_bytes())?;
-                (reply.hear(piece, *closes, None)?, expected)
-            }
-            Tick(closes, expected) => (reply.tick(*closes, None)?, expected),
-        };
-        if written.as_slice() != expected.as_bytes() {
-            return Ok(false);
-        }
-    }
-    ends_as(reply, row)
+    let mut reply = new_reply(alloc, row.0);
+    Ok(are_told(alloc, &mut reply, row.1)? && ends_as(reply, row)?)
 }
 
 #[test]
 fn rows(rt: HostRuntime) -> Result<(), NoMemory> {
-    let mut number: usize = 0;
-    for row in ROWS.iter() {
+    for (number, row) in ROWS.iter().enumerate() {
         assert!(&rt; is_answered(rt.alloc(), row)?, "row {number}");
-        number = number.saturating_add(1);
     }
     Ok(())
 }
@@ -156,11 +201,25 @@ const LATE: &[u8] =
 // .. and to HEAD, without one.
 const LATE_HEAD: &[u8] = b"HTTP/1.1 504 Gateway Timeout\r\nContent-Type: text/plain\r\n\r\n";
 
+fn has_begun(reply: &LegReply) -> bool {
+    reply.has_begun()
+}
+
+fn is_late(text: &Option<Bytes>) -> bool {
+    match text {
+        Some(text) => text.as_slice() == LATE,
+        None => false,
+    }
+}
+
+fn late(reply: LegReply) -> Result<Option<Bytes>, NoMemory> {
+    reply.fail(Cause::RunTime, true, Some(784_111_777))
+}
+
 fn fails_late(alloc: Global) -> Result<bool, NoMemory> {
-    let reply = LegReply::new(alloc, GET);
-    let begun = reply.has_begun();
-    let text = reply.fail(Cause::RunTime, true, Some(784_111_777))?;
-    Ok(!begun && text.is_some_and(|text| text.as_slice() == LATE))
+    let reply = new_reply(alloc, GET);
+    let begun = has_begun(&reply);
+    Ok(is_late(&late(reply)?) && !begun)
 }
 
 fn fails_late_to_head(alloc: Global) -> Result<bool, NoMemory> {
@@ -177,15 +236,24 @@ fn a_run_that_fails_is_answered_by_the_host(rt: HostRuntime) -> Result<(), Fail>
 
 // A reply as it is of which two bytes were written.
 fn begun_reply(alloc: Global) -> Result<LegReply, NoMemory> {
-    let mut reply = LegReply::new(alloc, RAW);
-    let _none = reply.hear(Bytes::from_slice(alloc, b"hi")?, false, None)?;
-    let _text = reply.tick(false, None)?;
+    let mut reply = new_reply(alloc, RAW);
+    begins(alloc, &mut reply)?;
     Ok(reply)
+}
+
+fn begins(alloc: Global, reply: &mut LegReply) -> Result<(), NoMemory> {
+    let _none = hear(alloc, reply, b"hi", false)?;
+    let _text = tick(reply, false)?;
+    Ok(())
+}
+
+fn failed(reply: LegReply) -> Result<Option<Bytes>, NoMemory> {
+    reply.fail(Cause::RunTime, true, None)
 }
 
 fn is_not_answered_anew(alloc: Global) -> Result<bool, NoMemory> {
     let reply = begun_reply(alloc)?;
-    Ok(reply.has_begun() && reply.fail(Cause::RunTime, true, None)?.is_none())
+    Ok(has_begun(&reply) && failed(reply)?.is_none())
 }
 
 #[test]

@@ -1,5 +1,6 @@
 // What headers are read as, whole and cut at each place.
 use super::cells::{Cells, are_right};
+use super::values::joined;
 use cgi_header::{CgiHead, Given, HdrStep, missing_cause, read_header};
 use host_base::{Bytes, Cause, NoMemory};
 use std::alloc::Global;
@@ -140,7 +141,7 @@ fn is_bad_so(
     row: &Cells,
 ) -> Result<bool, NoMemory> {
     match step {
-        Ok(HdrStep::Bad(given)) => Ok(row.is(1, format!(in alloc; "{given:?}")?.as_str())),
+        Ok(HdrStep::Bad(given)) => row.names(alloc, 1, *given),
         _ => Ok(false),
     }
 }
@@ -152,24 +153,58 @@ fn is_whole(step: &Result<HdrStep, NoMemory>, row: &Cells) -> bool {
     }
 }
 
-// A header and what follows it.
-fn output(alloc: Global, header: &[u8], body: &[u8]) -> Result<Vec<u8>, NoMemory> {
-    let mut output = Vec::from_slice(alloc, header)?;
-    output.extend_from_slice(body)?;
-    Ok(output)
+fn step_of(alloc: Global, front: &[u8]) -> Result<HdrStep, NoMemory> {
+    read_header(alloc, front)
+}
+
+// Whether a front of so many bytes is More before the header ends, and the header from there on.
+fn is_read_so(step: &Result<HdrStep, NoMemory>, row: &Cells, count: usize) -> bool {
+    if count < row.at(0).len() {
+        is_more(step)
+    } else {
+        is_whole(step, row)
+    }
+}
+
+fn is_read_at(alloc: Global, row: &Cells, front: &[u8]) -> bool {
+    is_read_so(&step_of(alloc, front), row, front.len())
+}
+
+fn is_read_at_each(alloc: Global, row: &Cells, output: &[u8]) -> bool {
+    for count in 0..output.len() + 1 {
+        if !is_read_at(alloc, row, &output[..count]) {
+            return false;
+        }
+    }
+    true
 }
 
 // Whether each front of the output is More before the header ends and the header from there on.
 fn is_read_however_cut(alloc: Global, row: &Cells, body: &[u8]) -> Result<bool, NoMemory> {
-    let output = output(alloc, row.at(0), body)?;
+    let output = joined(alloc, row.at(0), body)?;
+    Ok(is_read_at_each(alloc, row, output.as_slice()))
+}
+
+fn is_refused_so(
+    alloc: Global,
+    step: &Result<HdrStep, NoMemory>,
+    row: &Cells,
+    count: usize,
+) -> Result<bool, NoMemory> {
+    if count < row.at(0).len() {
+        Ok(is_more(step))
+    } else {
+        is_bad_so(alloc, step, row)
+    }
+}
+
+fn is_refused_at(alloc: Global, row: &Cells, front: &[u8]) -> Result<bool, NoMemory> {
+    is_refused_so(alloc, &step_of(alloc, front), row, front.len())
+}
+
+fn is_refused_at_each(alloc: Global, row: &Cells, output: &[u8]) -> Result<bool, NoMemory> {
     for count in 0..output.len() + 1 {
-        let step = read_header(alloc, &output.as_slice()[..count]);
-        let right = if count < row.at(0).len() {
-            is_more(&step)
-        } else {
-            is_whole(&step, row)
-        };
-        if !right {
+        if !is_refused_at(alloc, row, &output[..count])? {
             return Ok(false);
         }
     }
@@ -177,19 +212,8 @@ fn is_read_however_cut(alloc: Global, row: &Cells, body: &[u8]) -> Result<bool, 
 }
 
 fn is_refused_however_cut(alloc: Global, row: &Cells, body: &[u8]) -> Result<bool, NoMemory> {
-    let output = output(alloc, row.at(0), body)?;
-    for count in 0..output.len() + 1 {
-        let step = read_header(alloc, &output.as_slice()[..count]);
-        let right = if count < row.at(0).len() {
-            is_more(&step)
-        } else {
-            is_bad_so(alloc, &step, row)?
-        };
-        if !right {
-            return Ok(false);
-        }
-    }
-    Ok(true)
+    let output = joined(alloc, row.at(0), body)?;
+    is_refused_at_each(alloc, row, output.as_slice())
 }
 
 // The header, with nothing behind it and with something.
@@ -227,15 +251,15 @@ fn is_whole_at(step: &Result<HdrStep, NoMemory>, count: usize) -> bool {
 }
 
 fn is_awaited(alloc: Global, header: &[u8]) -> bool {
-    is_more(&read_header(alloc, header))
+    is_more(&step_of(alloc, header))
 }
 
 fn is_too_large(alloc: Global, header: &[u8]) -> bool {
-    is_bad(&read_header(alloc, header), Cause::HeaderTooLarge)
+    is_bad(&step_of(alloc, header), Cause::HeaderTooLarge)
 }
 
 fn is_read_whole(alloc: Global, header: &[u8]) -> bool {
-    is_whole_at(&read_header(alloc, header), header.len())
+    is_whole_at(&step_of(alloc, header), header.len())
 }
 
 fn all_but_one(header: &[u8]) -> &[u8] {
@@ -285,6 +309,10 @@ fn headers_without_an_end(rt: HostRuntime) -> Result<(), Fail> {
     Ok(())
 }
 
+fn is_missing(output: &[u8], cause: Cause) -> bool {
+    missing_cause(output) == cause
+}
+
 #[test]
 fn what_is_missing_at_the_end(rt: HostRuntime) -> Result<(), Fail> {
     for (output, cause) in [
@@ -292,7 +320,7 @@ fn what_is_missing_at_the_end(rt: HostRuntime) -> Result<(), Fail> {
         (b"\r", Cause::HeaderIncomplete),
         (b"Content-Type: text/plain\n", Cause::HeaderIncomplete),
     ] {
-        assert!(rt; missing_cause(output) == cause, "{cause:?}");
+        assert!(rt; is_missing(output, cause), "{cause:?}");
     }
     Ok(())
 }

@@ -47,25 +47,66 @@ struct Heard {
     over: bool,
 }
 
-fn hear(heard: &mut Heard, step: LineStep) -> Result<(), NoMemory> {
-    let texts = match step {
-        LineStep::Texts(texts) => texts,
-        LineStep::TooLong { before } => {
-            heard.over = true;
-            before
+impl Heard {
+    fn new(alloc: Global) -> Self {
+        Heard {
+            texts: Vec::new(alloc),
+            over: false,
         }
-    };
-    for text in texts.into_vec() {
-        heard.texts.push(text)?;
     }
-    Ok(())
+
+    fn push_all(&mut self, texts: Texts) -> Result<(), NoMemory> {
+        for text in texts.into_vec() {
+            self.texts.push(text)?;
+        }
+        Ok(())
+    }
+
+    fn hear(&mut self, step: LineStep) -> Result<(), NoMemory> {
+        match step {
+            LineStep::Texts(texts) => self.push_all(texts),
+            LineStep::TooLong { before } => {
+                self.over = true;
+                self.push_all(before)
+            }
+        }
+    }
+
+    // Whether what was heard are the cells of a row.
+    fn is_row(&self, row: &Cells) -> bool {
+        self.over == row.is(2, "long") && are(self.texts.as_slice(), row, 4)
+    }
+}
+
+fn new_lines(alloc: Global, limit: u64) -> Lines {
+    Lines::new(alloc, limit)
+}
+
+// What a piece gives; none where the output has ended.
+fn step_of(lines: &mut Lines, piece: &[u8]) -> Result<Option<LineStep>, NoMemory> {
+    if lines.is_ended() {
+        return Ok(None);
+    }
+    Ok(Some(lines.feed(piece)?))
+}
+
+// What the end gives; none where the output has ended.
+fn last_of(lines: &mut Lines) -> Result<Option<Texts>, NoMemory> {
+    if lines.is_ended() {
+        return Ok(None);
+    }
+    Ok(Some(lines.end()?))
+}
+
+fn is_ended(lines: &Lines) -> bool {
+    lines.is_ended()
 }
 
 // Whether the texts are the cells from one on, and no more.
 fn are(texts: &[Text], row: &Cells, from: usize) -> bool {
     let mut place = from;
     for text in texts {
-        if text.as_bytes() != row.at(place) {
+        if !is_text(text, row.at(place)) {
             return false;
         }
         place = place.saturating_add(1);
@@ -73,40 +114,60 @@ fn are(texts: &[Text], row: &Cells, from: usize) -> bool {
     place == row.len()
 }
 
-fn are_last(texts: &Texts, row: &Cells) -> bool {
-    match texts.as_slice() {
+fn is_text(text: &Text, due: &[u8]) -> bool {
+    text.as_bytes() == due
+}
+
+fn are_last(texts: &[Text], row: &Cells) -> bool {
+    match texts {
         [] => row.is(2, "none") || row.is(2, "long"),
-        [text] => row.is(2, "one") && text.as_bytes() == row.at(3),
+        [text] => row.is(2, "one") && is_text(text, row.at(3)),
         _ => false,
+    }
+}
+
+// Hears a piece, and says whether the output had not ended before.
+fn hears(lines: &mut Lines, heard: &mut Heard, piece: &[u8]) -> Result<bool, NoMemory> {
+    match step_of(lines, piece)? {
+        Some(step) => {
+            heard.hear(step)?;
+            Ok(true)
+        }
+        None => Ok(false),
+    }
+}
+
+fn hears_all(
+    lines: &mut Lines,
+    heard: &mut Heard,
+    output: &[u8],
+    size: usize,
+) -> Result<bool, NoMemory> {
+    for piece in output.chunks(size.max(1)) {
+        if !hears(lines, heard, piece)? {
+            return Ok(false);
+        }
+    }
+    Ok(true)
+}
+
+// Whether the output had not ended before, and what its end gives is the row's.
+fn ends(lines: &mut Lines, row: &Cells) -> Result<bool, NoMemory> {
+    match last_of(lines)? {
+        Some(texts) => Ok(are_last(texts.as_slice(), row) && is_ended(lines)),
+        None => Ok(false),
     }
 }
 
 // Whether an output whose first bytes come in one piece, and the others in pieces of `size`, is read so.
 fn is_read(alloc: Global, row: &Cells, cut: usize, size: usize) -> Result<bool, NoMemory> {
+    let mut lines = new_lines(alloc, row.number(0));
+    let mut heard = Heard::new(alloc);
     let output = row.at(1);
-    let mut lines = Lines::new(alloc, row.number(0));
-    let mut heard = Heard {
-        texts: Vec::new(alloc),
-        over: false,
-    };
     let (front, back) = output.split_at(cut.min(output.len()));
-    hear(&mut heard, lines.feed(front)?)?;
-    for piece in back.chunks(size.max(1)) {
-        if lines.is_ended() {
-            return Ok(false);
-        }
-        hear(&mut heard, lines.feed(piece)?)?;
-    }
-    if lines.is_ended() {
-        return Ok(false);
-    }
-    let texts = lines.end()?;
-    Ok(
-        lines.is_ended()
-            && heard.over == row.is(2, "long")
-            && are(heard.texts.as_slice(), row, 4)
-            && are_last(&texts, row),
-    )
+    let first = hears(&mut lines, &mut heard, front)?;
+    let right = first && hears_all(&mut lines, &mut heard, back, size)?;
+    Ok(right && ends(&mut lines, row)? && heard.is_row(row))
 }
 
 fn is_read_at_every_cut(alloc: Global, row: &Cells) -> Result<bool, NoMemory> {
@@ -125,41 +186,50 @@ fn outputs_are_read_at_every_cut(rt: HostRuntime) -> Result<(), Fail> {
 }
 
 // Whether a step gave no message.
-fn is_silent(step: LineStep) -> bool {
+fn is_silent(step: &Option<LineStep>) -> bool {
     match step {
-        LineStep::Texts(texts) => texts.is_empty(),
-        LineStep::TooLong { .. } => false,
+        Some(LineStep::Texts(texts)) => texts.is_empty(),
+        _ => false,
+    }
+}
+
+fn are_one(texts: &[Text], message: &[u8]) -> bool {
+    match texts {
+        [text] => is_text(text, message),
+        _ => false,
     }
 }
 
 // Whether a step gave this message alone.
-fn gives(step: LineStep, message: &[u8]) -> bool {
+fn gives(step: &Option<LineStep>, message: &[u8]) -> bool {
     match step {
-        LineStep::Texts(texts) => {
-            texts.len() == 1
-                && texts
-                    .as_slice()
-                    .iter()
-                    .all(|text| text.as_bytes() == message)
-        }
-        LineStep::TooLong { .. } => false,
+        Some(LineStep::Texts(texts)) => are_one(texts.as_slice(), message),
+        _ => false,
     }
+}
+
+fn hears_silently(lines: &mut Lines, piece: &[u8]) -> Result<bool, NoMemory> {
+    Ok(is_silent(&step_of(lines, piece)?))
+}
+
+fn hears_all_silently(lines: &mut Lines, line: &[u8], size: usize) -> Result<bool, NoMemory> {
+    for piece in line.chunks(size.max(1)) {
+        if !hears_silently(lines, piece)? {
+            return Ok(false);
+        }
+    }
+    Ok(true)
+}
+
+fn is_one_line(lines: &mut Lines, line: &[u8], size: usize) -> Result<bool, NoMemory> {
+    Ok(hears_all_silently(lines, line, size)? && gives(&step_of(lines, b"\n")?, line))
 }
 
 // A line of so many bytes, in pieces of `size`: whether it is a message, and nothing before its LF.
 fn is_one_message(alloc: Global, limit: u64, len: usize, size: usize) -> Result<bool, NoMemory> {
-    let mut lines = Lines::new(alloc, limit);
     let line = vec![in alloc; b'a'; len]?;
-    for piece in line.as_slice().chunks(size.max(1)) {
-        if lines.is_ended() || !is_silent(lines.feed(piece)?) {
-            return Ok(false);
-        }
-    }
-    if lines.is_ended() {
-        return Ok(false);
-    }
-    let step = lines.feed(b"\n")?;
-    Ok(gives(step, line.as_slice()))
+    let mut lines = new_lines(alloc, limit);
+    is_one_line(&mut lines, line.as_slice(), size)
 }
 
 #[test]

@@ -1,8 +1,9 @@
 // The host's own replies, the phrases, and replies whose text other programs know.
 ghost use Rattle.std.specs.Prelude.{length, ◌<◌};
 
-use super::cells::{Cells, are_right, count_of};
-use host_base::{Bytes, Cause, Field, Fields, NoMemory, Reply};
+use super::cells::{Cells, are_right, has_count, is_nothing};
+use super::values::{bytes_of, field_of, is_joined};
+use host_base::{Bytes, Cause, Fields, NoMemory, Reply};
 use reply_writer::{
     DATES_END, END_MARK, Shape, chunk_text, date_text, fault_reply, head_text, phrase, whole_text,
 };
@@ -190,56 +191,65 @@ const SIZES: &str = r"
 65536 | 10000
 ";
 
-fn field(alloc: Global, name: &str, value: &str) -> Result<Field, NoMemory> {
-    Ok(Field {
-        name: Bytes::from_slice(alloc, name.as_bytes())?,
-        value: Bytes::from_slice(alloc, value.as_bytes())?,
-    })
+fn one_field(alloc: Global) -> Result<Fields, NoMemory> {
+    let mut fields = Fields::new(alloc);
+    fields.push(field_of(alloc, b"Content-Type", b"text/plain")?)?;
+    Ok(fields)
 }
 
 fn reply(alloc: Global, status: u16, phrase: &[u8], body: &[u8]) -> Result<Reply, NoMemory> {
-    let mut fields = Fields::new(alloc);
-    fields.push(field(alloc, "Content-Type", "text/plain")?)?;
+    let fields = one_field(alloc)?;
     Ok(Reply {
         status,
-        phrase: Bytes::from_slice(alloc, phrase)?,
+        phrase: bytes_of(alloc, phrase)?,
         fields,
-        body: Bytes::from_slice(alloc, body)?,
+        body: bytes_of(alloc, body)?,
     })
 }
 
-// The fault's reply to HEAD, where the connection closes, or to another method.
-fn fault_text(alloc: Global, cause: Cause, is_head: bool) -> Result<Bytes, NoMemory> {
-    let fault = fault_reply(alloc, cause)?;
-    whole_text(alloc, &fault, is_head, is_head, None)
+fn text_of(alloc: Global, reply: &Reply, is_head: bool, close: bool) -> Result<Bytes, NoMemory> {
+    whole_text(alloc, reply, is_head, close, None)
+}
+
+fn fault(alloc: Global, cause: Cause) -> Result<Reply, NoMemory> {
+    fault_reply(alloc, cause)
+}
+
+// The fault's reply to HEAD, or to another method.
+fn fault_text(alloc: Global, cause: Cause, is_head: bool, close: bool) -> Result<Bytes, NoMemory> {
+    let fault = fault(alloc, cause)?;
+    text_of(alloc, &fault, is_head, close)
+}
+
+fn is_get(text: &[u8], row: &Cells) -> bool {
+    let fields = b"\r\nContent-Type: text/plain\r\nContent-Length: ";
+    let parts = [
+        b"HTTP/1.1 ".as_slice(),
+        row.at(1),
+        fields,
+        row.at(3),
+        b"\r\n\r\n",
+        row.at(2),
+        b"\n",
+    ];
+    is_joined(text, &parts)
 }
 
 fn gets(alloc: Global, cause: Cause, row: &Cells) -> Result<bool, NoMemory> {
-    let text = fault_text(alloc, cause, false)?;
-    let want = format!(in alloc;
-        "HTTP/1.1 {}\r\nContent-Type: text/plain\r\nContent-Length: {}\r\n\r\n{}\n",
-        row.text(1),
-        row.text(3),
-        row.text(2)
-    )?;
-    Ok(text.as_slice() == want.as_bytes())
+    Ok(is_get(fault_text(alloc, cause, false, false)?.as_slice(), row))
+}
+
+fn is_head(text: &[u8], row: &Cells) -> bool {
+    let fields = b"\r\nContent-Type: text/plain\r\nConnection: close\r\n\r\n";
+    is_joined(text, &[b"HTTP/1.1 ".as_slice(), row.at(1), fields])
 }
 
 fn heads(alloc: Global, cause: Cause, row: &Cells) -> Result<bool, NoMemory> {
-    let text = fault_text(alloc, cause, true)?;
-    let want = format!(in alloc;
-        "HTTP/1.1 {}\r\nContent-Type: text/plain\r\nConnection: close\r\n\r\n",
-        row.text(1)
-    )?;
-    Ok(text.as_slice() == want.as_bytes())
-}
-
-fn is_named(alloc: Global, cause: Cause, row: &Cells) -> Result<bool, NoMemory> {
-    Ok(row.is(0, format!(in alloc; "{cause:?}")?.as_str()))
+    Ok(is_head(fault_text(alloc, cause, true, true)?.as_slice(), row))
 }
 
 fn is_cause(alloc: Global, cause: Cause, row: &Cells) -> Result<bool, NoMemory> {
-    Ok(is_named(alloc, cause, row)? && gets(alloc, cause, row)? && heads(alloc, cause, row)?)
+    Ok(row.names(alloc, 0, cause)? && gets(alloc, cause, row)? && heads(alloc, cause, row)?)
 }
 
 fn is_cause_row(alloc: Global, cause: Cause, row: &str) -> Result<bool, NoMemory> {
@@ -259,16 +269,14 @@ fn wrong_cause_row(alloc: Global, causes: &[Cause]) -> Result<&'static str, NoMe
 
 #[test]
 fn causes(rt: HostRuntime) -> Result<(), Fail> {
-    assert_eq!(rt; count_of(OF_CAUSES), 39);
-    assert_eq!(rt; wrong_cause_row(rt.alloc(), &CAUSES)?, "");
+    has_count(&rt, OF_CAUSES, 39);
+    is_nothing(&rt, wrong_cause_row(rt.alloc(), &CAUSES)?);
     Ok(())
 }
 
 // Whether the reply to a WebSocket's client of another version is this, to HEAD or to another method.
 fn asks_to_upgrade(alloc: Global, is_head: bool, due: &[u8]) -> Result<bool, NoMemory> {
-    let fault = fault_reply(alloc, Cause::UpgradeNeeded)?;
-    let text = whole_text(alloc, &fault, is_head, false, None)?;
-    Ok(text.as_slice() == due)
+    Ok(fault_text(alloc, Cause::UpgradeNeeded, is_head, false)?.as_slice() == due)
 }
 
 const UPGRADE: &[u8] =
@@ -297,10 +305,13 @@ fn phrases(rt: HostRuntime) -> Result<(), Fail> {
     are_right(&rt, rt.alloc(), PHRASES, 47, is_phrase)
 }
 
+fn spoken(alloc: Global, row: &Cells) -> Result<Bytes, NoMemory> {
+    let reply = reply(alloc, code_of(row), row.at(1), row.at(2))?;
+    text_of(alloc, &reply, row.is_yes(3), row.is_yes(4))
+}
+
 fn is_spoken(alloc: Global, row: &Cells) -> Result<bool, NoMemory> {
-    let spoken = reply(alloc, code_of(row), row.at(1), row.at(2))?;
-    let text = whole_text(alloc, &spoken, row.is_yes(3), row.is_yes(4), None)?;
-    Ok(row.len() == 6 && text.as_slice() == row.at(5))
+    Ok(spoken(alloc, row)?.as_slice() == row.at(5) && row.len() == 6)
 }
 
 #[test]
@@ -318,14 +329,26 @@ const SHAPES: [(Shape, &str); 4] = [
     (Shape::ToClose, ""),
 ];
 
+fn head_of(alloc: Global, reply: &Reply, shape: Shape) -> Result<Bytes, NoMemory> {
+    head_text(alloc, reply, shape, true, None)
+}
+
+fn shaped(alloc: Global, shape: Shape) -> Result<Bytes, NoMemory> {
+    let reply = reply(alloc, 200, b"OK", b"hi\n")?;
+    head_of(alloc, &reply, shape)
+}
+
+fn is_closing(head: &[u8], framing: &[u8]) -> bool {
+    let begin = b"HTTP/1.1 200 OK\r\nContent-Type: text/plain\r\n";
+    is_joined(
+        head,
+        &[begin.as_slice(), framing, b"Connection: close\r\n\r\n"],
+    )
+}
+
 // Whether a head has this field for its shape.
 fn is_shaped(alloc: Global, shape: Shape, framing: &str) -> Result<bool, NoMemory> {
-    let spoken = reply(alloc, 200, b"OK", b"hi\n")?;
-    let head = head_text(alloc, &spoken, shape, true, None)?;
-    let want = format!(in alloc;
-        "HTTP/1.1 200 OK\r\nContent-Type: text/plain\r\n{framing}Connection: close\r\n\r\n"
-    )?;
-    Ok(head.as_slice() == want.as_bytes())
+    Ok(is_closing(shaped(alloc, shape)?.as_slice(), framing.as_bytes()))
 }
 
 #[test]
@@ -347,11 +370,22 @@ fn dates(rt: HostRuntime) -> Result<(), Fail> {
     are_right(&rt, rt.alloc(), DATES, 6, is_date)
 }
 
-// A reply with a field of the script's own, at the second 784111777.
+// The text of a reply at the second 784111777.
+fn dated_text(alloc: Global, reply: &Reply, close: bool) -> Result<Bytes, NoMemory> {
+    whole_text(alloc, reply, false, close, Some(&date_text(784_111_777)))
+}
+
+fn push_own(alloc: Global, reply: &mut Reply, own: &str) -> Result<(), NoMemory> {
+    reply
+        .fields
+        .push(field_of(alloc, name_of(own).as_bytes(), b"x")?)
+}
+
+// A reply with a field of the script's own, then.
 fn text_with(alloc: Global, own: &str) -> Result<Bytes, NoMemory> {
-    let mut spoken = reply(alloc, 200, b"OK", b"hi\n")?;
-    spoken.fields.push(field(alloc, name_of(own), "x")?)?;
-    whole_text(alloc, &spoken, false, false, Some(&date_text(784_111_777)))
+    let mut reply = reply(alloc, 200, b"OK", b"hi\n")?;
+    push_own(alloc, &mut reply, own)?;
+    dated_text(alloc, &reply, false)
 }
 
 fn name_of(own: &str) -> &str {
@@ -361,13 +395,16 @@ fn name_of(own: &str) -> &str {
     }
 }
 
+fn is_with(text: &[u8], own: &[u8]) -> bool {
+    let begin = b"HTTP/1.1 200 OK\r\nContent-Type: text/plain\r\n";
+    is_joined(
+        text,
+        &[begin.as_slice(), own, b"Content-Length: 3\r\n\r\nhi\n"],
+    )
+}
+
 fn is_dated(alloc: Global, row: &Cells) -> Result<bool, NoMemory> {
-    let text = text_with(alloc, row.text(0))?;
-    let want = format!(in alloc;
-        "HTTP/1.1 200 OK\r\nContent-Type: text/plain\r\n{}Content-Length: 3\r\n\r\nhi\n",
-        row.text(1)
-    )?;
-    Ok(text.as_slice() == want.as_bytes())
+    Ok(is_with(text_with(alloc, row.text(0))?.as_slice(), row.at(1)))
 }
 
 #[test]
@@ -383,8 +420,7 @@ const DATED_504: &[u8] =
 
 // Whether a reply at the second 784111777 is written so.
 fn is_dated_text(alloc: Global, reply: &Reply, close: bool, due: &[u8]) -> Result<bool, NoMemory> {
-    let text = whole_text(alloc, reply, false, close, Some(&date_text(784_111_777)))?;
-    Ok(text.as_slice() == due)
+    Ok(dated_text(alloc, reply, close)?.as_slice() == due)
 }
 
 fn is_empty_reply_dated(alloc: Global) -> Result<bool, NoMemory> {
@@ -393,7 +429,7 @@ fn is_empty_reply_dated(alloc: Global) -> Result<bool, NoMemory> {
 }
 
 fn is_fault_dated(alloc: Global) -> Result<bool, NoMemory> {
-    let late = fault_reply(alloc, Cause::RunTime)?;
+    let late = fault(alloc, Cause::RunTime)?;
     is_dated_text(alloc, &late, true, DATED_504)
 }
 
@@ -410,9 +446,8 @@ fn is_chunk(alloc: Global, piece: &[u8], digits: &[u8]) -> Result<bool, NoMemory
     requires { 0 < length piece.now }
 {
     let end = b"\r\n".as_slice();
-    let want = [digits, end, piece, end].concat(alloc)?;
     let text = chunk_text(alloc, piece)?;
-    Ok(text.as_slice() == want.as_slice())
+    Ok(is_joined(text.as_slice(), &[digits, end, piece, end]))
 }
 
 fn is_size(alloc: Global, row: &Cells) -> Result<bool, NoMemory> {

@@ -2,7 +2,8 @@
 ghost use Rattle.reply_writer.specs.WholeRules.{IsStamp};
 
 use super::cells::{Cells, are_right};
-use host_base::{Bytes, NoMemory, ScriptKind, Version};
+use super::values::bytes_of;
+use host_base::{Bytes, Cause, NoMemory, ScriptKind, Version};
 use reply_stream::{Asked, Last, Stream};
 use std::alloc::Global;
 use std::test::Fail;
@@ -118,17 +119,53 @@ fn stamp_of(dated: bool) -> Option<u64>
     if dated { Some(784_111_777) } else { None }
 }
 
+fn new_stream(alloc: Global, asked: Asked) -> Stream {
+    Stream::new(alloc, asked)
+}
+
+fn hear(
+    alloc: Global,
+    stream: &mut Stream,
+    piece: &[u8],
+    close: bool,
+    dated: bool,
+) -> Result<Bytes, NoMemory> {
+    let piece = bytes_of(alloc, piece)?;
+    stream.hear(piece, close, stamp_of(dated))
+}
+
+fn tick(stream: &mut Stream, close: bool, dated: bool) -> Result<Bytes, NoMemory> {
+    stream.tick(close, stamp_of(dated))
+}
+
+fn has_begun(stream: &Stream) -> bool {
+    stream.has_begun()
+}
+
+fn end(stream: Stream, close: bool, dated: bool) -> Result<Last, NoMemory> {
+    stream.end(close, stamp_of(dated))
+}
+
+// Whether a cell has this word, and the next one this text.
+fn is_so(row: &Cells, place: usize, word: &str, text: &[u8]) -> bool {
+    row.is(place, word) && row.at(place.saturating_add(1)) == text
+}
+
+fn is_bad(alloc: Global, row: &Cells, place: usize, cause: Cause) -> Result<bool, NoMemory> {
+    Ok(row.is(place, "bad") && row.names(alloc, place.saturating_add(1), cause)?)
+}
+
+fn is_last(alloc: Global, last: &Last, row: &Cells, place: usize) -> Result<bool, NoMemory> {
+    match last {
+        Last::Written(bytes) => Ok(is_so(row, place, "rest", bytes.as_slice())),
+        Last::Hop(location) => Ok(is_so(row, place, "hop", location.as_slice())),
+        Last::Bad(cause) => is_bad(alloc, row, place, *cause),
+    }
+}
+
 // Whether it comes to what two cells say, and they are the last ones.
 fn is_ended(alloc: Global, last: &Last, row: &Cells, place: usize) -> Result<bool, NoMemory> {
-    let text = place.saturating_add(1);
-    let right = match last {
-        Last::Written(bytes) => row.is(place, "rest") && bytes.as_slice() == row.at(text),
-        Last::Hop(location) => row.is(place, "hop") && location.as_slice() == row.at(text),
-        Last::Bad(cause) => {
-            row.is(place, "bad") && row.is(text, format!(in alloc; "{cause:?}")?.as_str())
-        }
-    };
-    Ok(right && row.len() == place.saturating_add(2))
+    Ok(row.len() == place.saturating_add(2) && is_last(alloc, last, row, place)?)
 }
 
 // A row that is told.
@@ -140,60 +177,56 @@ struct Telling {
 }
 
 impl Telling {
-    // Whether a piece, or a tick, is answered as the cells from one on say; how many cells they are, and none where the output
-    // ends there.
-    fn is_told(
-        &mut self,
-        alloc: Global,
-        row: &Cells,
-        place: usize,
-    ) -> Result<Option<usize>, NoMemory> {
-        let first = place.saturating_add(1);
-        let second = place.saturating_add(2);
-        match row.text(place) {
-            "piece" => {
-                let piece = Bytes::from_slice(alloc, row.at(first))?;
-                let text = self.stream.hear(piece, self.close, stamp_of(self.stamp))?;
-                Ok(if text.as_slice() == row.at(second) {
-                    Some(3)
-                } else {
-                    None
-                })
-            }
-            "tick" => {
-                let text = self.stream.tick(self.close, stamp_of(self.stamp))?;
-                Ok(if text.as_slice() == row.at(first) {
-                    Some(2)
-                } else {
-                    None
-                })
-            }
-            _ => Ok(None),
+    fn new(alloc: Global, row: &Cells) -> Self {
+        Telling {
+            stream: new_stream(alloc, asked_of(row)),
+            close: row.is_yes(1),
+            stamp: row.is_yes(2),
         }
+    }
+
+    fn hears(&mut self, alloc: Global, piece: &[u8], due: &[u8]) -> Result<bool, NoMemory> {
+        let text = hear(alloc, &mut self.stream, piece, self.close, self.stamp)?;
+        Ok(text.as_slice() == due)
+    }
+
+    fn ticks(&mut self, due: &[u8]) -> Result<bool, NoMemory> {
+        let text = tick(&mut self.stream, self.close, self.stamp)?;
+        Ok(text.as_slice() == due)
+    }
+
+    // Whether a piece, or a tick, is answered as the cells from one on say.
+    fn is_told(&mut self, alloc: Global, row: &Cells, place: usize) -> Result<bool, NoMemory> {
+        let first = row.at(place.saturating_add(1));
+        match row.text(place) {
+            "piece" => self.hears(alloc, first, row.at(place.saturating_add(2))),
+            "tick" => self.ticks(first),
+            _ => Ok(false),
+        }
+    }
+
+    // The cell before which all is told and answered so.
+    fn told(&mut self, alloc: Global, row: &Cells) -> Result<usize, NoMemory> {
+        let mut place: usize = 3;
+        for _ in 0..row.len() {
+            if !self.is_told(alloc, row, place)? {
+                return Ok(place);
+            }
+            place = place.saturating_add(if row.is(place, "tick") { 2 } else { 3 });
+        }
+        Ok(place)
+    }
+
+    fn last(self) -> Result<Last, NoMemory> {
+        end(self.stream, self.close, self.stamp)
     }
 }
 
 // Whether each thing that is told is answered as its row says, and the end too.
 fn is_answered(alloc: Global, row: &Cells) -> Result<bool, NoMemory> {
-    let mut telling = Telling {
-        stream: Stream::new(alloc, asked_of(row)),
-        close: row.is_yes(1),
-        stamp: row.is_yes(2),
-    };
-    let mut place: usize = 3;
-    for _ in 0..row.len() {
-        match telling.is_told(alloc, row, place)? {
-            Some(count) => place = place.saturating_add(count),
-            None => break,
-        }
-    }
-    let Telling {
-        stream,
-        close,
-        stamp,
-    } = telling;
-    let last = stream.end(close, stamp_of(stamp))?;
-    is_ended(alloc, &last, row, place)
+    let mut telling = Telling::new(alloc, row);
+    let place = telling.told(alloc, row)?;
+    is_ended(alloc, &telling.last()?, row, place)
 }
 
 #[test]

@@ -146,6 +146,16 @@ impl Cells {
     }
 }
 
+fn is_right_row<F: Fn(Global, &Cells) -> Result<bool, NoMemory>>(
+    alloc: Global,
+    row: &str,
+    is_right: &F,
+) -> Result<bool, NoMemory>
+    requires { F.IsAlwaysCallable is_right.now }
+{
+    is_right(alloc, &Cells::new(alloc, row)?)
+}
+
 // The first row of a table whose cells are not right; nothing where all are.
 fn wrong_row<F: Fn(Global, &Cells) -> Result<bool, NoMemory>>(
     alloc: Global,
@@ -155,11 +165,19 @@ fn wrong_row<F: Fn(Global, &Cells) -> Result<bool, NoMemory>>(
     requires { F.IsAlwaysCallable is_right }
 {
     for row in table.lines() {
-        if is_row(row) && !is_right(alloc, &Cells::new(alloc, row)?)? {
+        if is_row(row) && !is_right_row(alloc, row, &is_right)? {
             return Ok(row);
         }
     }
     Ok("")
+}
+
+fn has_count<R: Abort>(rt: &R, table: &str, count: usize) {
+    assert_eq!(rt; count_of(table), count);
+}
+
+fn is_nothing<R: Abort>(rt: &R, wrong: &str) {
+    assert_eq!(rt; wrong, "");
 }
 
 /// Each row of a table of so many is right.
@@ -172,7 +190,7 @@ pub fn are_right<R: Abort, F: Fn(Global, &Cells) -> Result<bool, NoMemory>>(
 ) -> Result<(), Fail>
     requires { F.IsAlwaysCallable is_right }
 {
-    assert_eq!(rt; count_of(table), count);
-    assert_eq!(rt; wrong_row(alloc, table, is_right)?, "");
+    has_count(rt, table, count);
+    is_nothing(rt, wrong_row(alloc, table, is_right)?);
     Ok(())
 }

@@ -1,8 +1,9 @@
 // What bodies in chunks are read as, whole, byte by byte and cut in two at each place, and how heads
 // delimit their bodies.
 use super::cells::{Cells, are_right};
+use super::values::{bytes_of, field_of};
 use body_framing::{ChunkStep, Chunks, framing_of};
-use host_base::{Bytes, Cause, Field, Fields, Framing, Head, Limits, NoMemory, Version};
+use host_base::{Cause, Fields, Framing, Head, Limits, NoMemory, Version};
 use std::alloc::Global;
 use std::test::Fail;
 
@@ -97,6 +98,42 @@ fn is_due(step: ChunkStep, count: usize, before: usize, end: usize, cause: Optio
     }
 }
 
+// Whether a piece behind so many bytes has the answer that is due.
+fn is_fed(
+    chunks: &mut Chunks,
+    piece: &[u8],
+    before: &mut usize,
+    due: (usize, Option<Cause>),
+) -> Result<bool, NoMemory> {
+    let step = chunks.feed(piece)?;
+    let count = before.saturating_add(piece.len());
+    let right = is_due(step, count, *before, due.0, due.1);
+    *before = count;
+    Ok(right)
+}
+
+fn are_fed(
+    chunks: &mut Chunks,
+    rest: &[u8],
+    size: usize,
+    before: &mut usize,
+    due: (usize, Option<Cause>),
+) -> Result<bool, NoMemory> {
+    for piece in rest.chunks(size.max(1)) {
+        if !is_fed(chunks, piece, before, due)? {
+            return Ok(false);
+        }
+    }
+    Ok(true)
+}
+
+fn has_data(chunks: &Chunks, data: Option<&[u8]>) -> bool {
+    match data {
+        Some(data) => chunks.body() == data,
+        None => true,
+    }
+}
+
 // Whether the text in a piece of `first` bytes and then in pieces of `size` bytes has the answer that is
 // due, each time, with at most `limit` bytes of data.
 fn is_read(
@@ -109,22 +146,9 @@ fn is_read(
 ) -> Result<bool, NoMemory> {
     let mut chunks = Chunks::new(alloc, limit);
     let (first, rest) = text.split_at(cut.0.min(text.len()));
-    let mut count = first.len();
-    if !is_due(chunks.feed(first)?, count, 0, due.0, due.1) {
-        return Ok(false);
-    }
-    for piece in rest.chunks(cut.1.max(1)) {
-        let before = count;
-        count = before.saturating_add(piece.len());
-        if !is_due(chunks.feed(piece)?, count, before, due.0, due.1) {
-            return Ok(false);
-        }
-    }
-    let is_right = match data {
-        Some(data) => chunks.body() == data,
-        None => true,
-    };
-    Ok(is_right)
+    let mut before: usize = 0;
+    let whole = is_fed(&mut chunks, first, &mut before, due)?;
+    Ok(whole && are_fed(&mut chunks, rest, cut.1, &mut before, due)? && has_data(&chunks, data))
 }
 
 // Whether it has it whole, byte by byte, and cut in two at each place.
@@ -230,27 +254,25 @@ BadFraming | Content-Length | 3 | Transfer-Encoding | chunked
 BadFraming | Content-Length | x | Transfer-Encoding | gzip
 ";
 
-fn field_of(alloc: Global, name: &[u8], value: &[u8]) -> Result<Field, NoMemory> {
-    Ok(Field {
-        name: Bytes::from_slice(alloc, name)?,
-        value: Bytes::from_slice(alloc, value)?,
-    })
+fn push_line(alloc: Global, fields: &mut Fields, line: &[Vec<u8>]) -> Result<(), NoMemory> {
+    match line {
+        [name, value] => fields.push(field_of(alloc, name.as_slice(), value.as_slice())?),
+        _ => Ok(()),
+    }
 }
 
 fn fields_of(alloc: Global, row: &Cells) -> Result<Fields, NoMemory> {
     let mut fields = Fields::new(alloc);
     for line in row.from(1).chunks(2) {
-        if let [name, value] = line {
-            fields.push(field_of(alloc, name.as_slice(), value.as_slice())?)?;
-        }
+        push_line(alloc, &mut fields, line)?;
     }
     Ok(fields)
 }
 
 fn head_of(alloc: Global, version: Version, row: &Cells) -> Result<Head, NoMemory> {
     Ok(Head {
-        method: Bytes::from_slice(alloc, b"POST")?,
-        target: Bytes::from_slice(alloc, b"/")?,
+        method: bytes_of(alloc, b"POST")?,
+        target: bytes_of(alloc, b"/")?,
         version,
         fields: fields_of(alloc, row)?,
     })
@@ -280,17 +302,25 @@ fn is_coded(row: &Cells) -> bool {
     false
 }
 
-fn is_framed(alloc: Global, version: Version, row: &Cells) -> Result<bool, NoMemory> {
+fn framing_due_in(version: Version, row: &Cells) -> Result<Framing, Cause> {
+    if version == Version::V10 && is_coded(row) {
+        Err(Cause::BadFraming)
+    } else {
+        framing_due(row)
+    }
+}
+
+fn framing_given(head: &Head) -> Result<Framing, Cause> {
     let limits = Limits {
         body: 100,
         ..Limits::default()
     };
-    let due = if is_coded(row) && version == Version::V10 {
-        Err(Cause::BadFraming)
-    } else {
-        framing_due(row)
-    };
-    Ok(framing_of(&head_of(alloc, version, row)?, &limits) == due)
+    framing_of(head, &limits)
+}
+
+fn is_framed(alloc: Global, version: Version, row: &Cells) -> Result<bool, NoMemory> {
+    let given = framing_given(&head_of(alloc, version, row)?);
+    Ok(given == framing_due_in(version, row))
 }
 
 fn is_framed_in_both(alloc: Global, row: &Cells) -> Result<bool, NoMemory> {

@@ -3,11 +3,13 @@
 ghost use Rattle.std.specs.Prelude.{◌≡◌, false, [], ◌∷◌, IfOk, IsTrue};
 ghost use Rattle.std.specs.Str.{bytes_eq};
 ghost use Rattle.script_map.specs.DotSegments.{IsRooted};
+ghost use Rattle.script_map.specs.Redirects.{is_local};
 ghost use Rattle.host_base.specs.SiteRules.{HasHosts, HasScripts};
 
+use super::values::{bytes_of, field_of, text_of, value, version_of, word};
 use host_base::{
-    Bytes, Cause, Docs, Field, Fields, Head, Hosts, Limits, Mapped, NoMemory, Refusal, Script,
-    ScriptKind, Scripts, Site, Target, Text, Texts, VHost, Version,
+    Bytes, Cause, Docs, Fields, Head, Hosts, Limits, Mapped, NoMemory, Refusal, Script, ScriptKind,
+    Scripts, Site, Target, Text, Texts, VHost,
 };
 use percent_encoding::percent_decode;
 use script_map::{
@@ -16,14 +18,6 @@ use script_map::{
 };
 use std::alloc::Global;
 
-fn word(line: &str, place: usize) -> &str {
-    line.split(' ').nth(place).unwrap_or("-")
-}
-
-fn value(word: &str) -> &str {
-    if word == "_" { "" } else { word }
-}
-
 fn is_value(given: &Option<Bytes>, word: &str) -> bool {
     match given {
         Some(bytes) => bytes.as_slice() == value(word).as_bytes(),
@@ -31,19 +25,21 @@ fn is_value(given: &Option<Bytes>, word: &str) -> bool {
     }
 }
 
-fn field(alloc: Global, name: &str, value: &str) -> Result<Field, NoMemory> {
-    Ok(Field {
-        name: Bytes::from_slice(alloc, name.as_bytes())?,
-        value: Bytes::from_slice(alloc, value.as_bytes())?,
-    })
+fn push_field(
+    alloc: Global,
+    fields: &mut Fields,
+    name: &[u8],
+    value: &str,
+) -> Result<(), NoMemory> {
+    fields.push(field_of(alloc, name, value.as_bytes())?)
 }
 
 // The field lines of a head, whose Host values stand in the line from a place on.
 fn fields(alloc: Global, line: &str, place: usize) -> Result<Fields, NoMemory> {
     let mut fields = Fields::new(alloc);
-    fields.push(field(alloc, "Accept", "*/*")?)?;
+    push_field(alloc, &mut fields, b"Accept", "*/*")?;
     for host in line.split(' ').skip(place) {
-        fields.push(field(alloc, "hOST", value(host))?)?;
+        push_field(alloc, &mut fields, b"hOST", value(host))?;
     }
     Ok(fields)
 }
@@ -51,13 +47,9 @@ fn fields(alloc: Global, line: &str, place: usize) -> Result<Fields, NoMemory> {
 // The head of a line: method, target and version, and from a place on the values of Host.
 fn head(alloc: Global, line: &str, place: usize) -> Result<Head, NoMemory> {
     Ok(Head {
-        method: Bytes::from_slice(alloc, word(line, 0).as_bytes())?,
-        target: Bytes::from_slice(alloc, value(word(line, 1)).as_bytes())?,
-        version: if word(line, 2) == "1.0" {
-            Version::V10
-        } else {
-            Version::V11
-        },
+        method: bytes_of(alloc, word(line, 0).as_bytes())?,
+        target: bytes_of(alloc, value(word(line, 1)).as_bytes())?,
+        version: version_of(word(line, 2)),
         fields: fields(alloc, line, place)?,
     })
 }
@@ -92,8 +84,6 @@ fn is_target(given: &Result<Target, Refusal>, line: &str) -> bool {
     }
 }
 
-// Each of these gives the first line of a table whose case comes out otherwise.
-
 const TARGETS: &str = "\
 GET / 1.1 / - a a
 GET /a? 1.1 /a _ a a
@@ -120,26 +110,20 @@ GET http://b/ 1.0 / - b
 GET http://b 1.1 / - b _
 GET /cgi-bin/hello/a%20b/?x=1 1.1 /cgi-bin/hello/a%20b/ x=1 example.com example.com:8080";
 
-fn is_split(alloc: Global, line: &str) -> Result<bool, NoMemory> {
-    let head = head(alloc, line, 6)?;
-    Ok(is_target(&split_target(alloc, &head), line))
+// The target of a head, whose Host values stand in the line from a place on.
+fn target_of(alloc: Global, line: &str, place: usize) -> Result<Target, Refusal> {
+    split_target(alloc, &head(alloc, line, place)?)
 }
 
-fn wrong_target<'a>(alloc: Global, table: &'a str) -> Result<Option<&'a str>, NoMemory> {
-    for line in table.lines() {
-        if !is_split(alloc, line)? {
-            return Ok(Some(line));
-        }
-    }
-    Ok(None)
+fn is_split(alloc: Global, line: &str) -> bool {
+    is_target(&target_of(alloc, line, 6), line)
 }
 
 #[test]
-fn targets(rt: HostRuntime) -> Result<(), NoMemory> {
-    if let Some(line) = wrong_target(rt.alloc(), TARGETS)? {
-        panic!(&rt; "{line}");
+fn targets(rt: HostRuntime) {
+    for line in TARGETS.lines() {
+        assert!(&rt; is_split(rt.alloc(), line), "{line}");
     }
-    Ok(())
 }
 
 const REFUSED_TARGETS: &str = "\
@@ -177,29 +161,27 @@ GET http://:80/ 1.1 BadTarget a
 GET http://u@b/ 1.1 BadTarget a
 GET /a#b 1.1 BadTarget a";
 
-fn is_refused_target(alloc: Global, line: &str) -> Result<bool, NoMemory> {
-    let head = head(alloc, line, 4)?;
-    Ok(is_cause(&split_target(alloc, &head), word(line, 3)))
+fn is_refused_target(alloc: Global, line: &str) -> bool {
+    is_cause(&target_of(alloc, line, 4), word(line, 3))
 }
 
-fn wrong_refused_target<'a>(alloc: Global, table: &'a str) -> Result<Option<&'a str>, NoMemory> {
-    for line in table.lines() {
-        if !is_refused_target(alloc, line)? {
-            return Ok(Some(line));
-        }
-    }
-    Ok(None)
+// A head of this target, for the host of a line.
+fn head_for(alloc: Global, line: &str, target: &[u8]) -> Result<Head, NoMemory> {
+    let mut head = head(alloc, line, 3)?;
+    head.target = bytes_of(alloc, target)?;
+    Ok(head)
+}
+
+fn target_with(alloc: Global, target: &[u8]) -> Result<Target, Refusal> {
+    split_target(alloc, &head_for(alloc, "GET / 1.1 a", target)?)
 }
 
 #[test]
-fn refused_targets(rt: HostRuntime) -> Result<(), NoMemory> {
-    if let Some(line) = wrong_refused_target(rt.alloc(), REFUSED_TARGETS)? {
-        panic!(&rt; "{line}");
+fn refused_targets(rt: HostRuntime) {
+    for line in REFUSED_TARGETS.lines() {
+        assert!(&rt; is_refused_target(rt.alloc(), line), "{line}");
     }
-    let mut head = head(rt.alloc(), "GET / 1.1 a", 3)?;
-    head.target = Bytes::from_slice(rt.alloc(), b"/a?\xFF")?;
-    assert!(&rt; is_cause(&split_target(rt.alloc(), &head), "BadTarget"));
-    Ok(())
+    assert!(&rt; is_cause(&target_with(rt.alloc(), b"/a?\xFF"), "BadTarget"));
 }
 
 fn is_rooted(path: &[u8]) -> bool
@@ -247,24 +229,18 @@ const PATHS: &str = "\
 /..//a //a
 /%2e%2e/ /%2e%2e/";
 
-fn wrong_path<'a>(alloc: Global, table: &'a str) -> Result<Option<&'a str>, NoMemory> {
-    for line in table.lines() {
-        let path = word(line, 0).as_bytes();
-        if !is_rooted(path) {
-            return Ok(Some(line));
-        }
-        let given = remove_dot_segments(alloc, path)?;
-        if given.as_slice() != word(line, 1).as_bytes() {
-            return Ok(Some(line));
-        }
-    }
-    Ok(None)
+fn is_without_dots(alloc: Global, path: &[u8], due: &[u8]) -> Result<bool, NoMemory> {
+    Ok(is_rooted(path) && remove_dot_segments(alloc, path)?.as_slice() == due)
+}
+
+fn is_path(alloc: Global, line: &str) -> Result<bool, NoMemory> {
+    is_without_dots(alloc, word(line, 0).as_bytes(), word(line, 1).as_bytes())
 }
 
 #[test]
 fn dot_segments(rt: HostRuntime) -> Result<(), NoMemory> {
-    if let Some(line) = wrong_path(rt.alloc(), PATHS)? {
-        panic!(&rt; "{line}");
+    for line in PATHS.lines() {
+        assert!(&rt; is_path(rt.alloc(), line)?, "{line}");
     }
     Ok(())
 }
@@ -274,7 +250,7 @@ fn script(alloc: Global, path: &str) -> Result<Script, NoMemory>
 {
     Ok(Script {
         path: Text::copy_of(alloc, path)?,
-        program: Text::copy_of(alloc, "/bin/cat")?,
+        program: text_of(alloc, "/bin/cat")?,
         kind: ScriptKind::Cgi,
         origins: None,
     })
@@ -317,7 +293,7 @@ fn host(
         name: Text::copy_of(alloc, names.0)?,
         aliases: one_alias(alloc, names.1)?,
         any,
-        root: Text::copy_of(alloc, "/srv/www")?,
+        root: text_of(alloc, "/srv/www")?,
         scripts: two_scripts(alloc, first, second)?,
     })
 }
@@ -326,7 +302,7 @@ fn site(alloc: Global, hosts: Hosts) -> Result<Site, NoMemory>
     ensures { IfOk result (λ site. site.hosts ≡ hosts) }
 {
     Ok(Site {
-        listen: Text::copy_of(alloc, "127.0.0.1")?,
+        listen: text_of(alloc, "127.0.0.1")?,
         port: 8080,
         limits: Limits::default(),
         hosts,
@@ -345,26 +321,34 @@ fn three_hosts(alloc: Global, any: bool, first: &str, second: &str) -> Result<Si
     site(alloc, Hosts::from_vec(Vec::from_array(alloc, [a, b, c])?))
 }
 
+// Whether the script and the PATH_INFO are those of two words of a line.
+fn has_names(mapped: &Mapped, line: &str, place: usize) -> bool {
+    mapped.script_name.as_str() == word(line, place)
+        && mapped.path_info.as_str() == value(word(line, place.saturating_add(1)))
+}
+
+fn is_of_first_host(mapped: &Mapped, line: &str) -> bool {
+    (mapped.index == 1) == (word(line, 1) == "/cgi-bin/hello") && mapped.host == 0
+}
+
 fn is_mapped(given: &Result<Mapped, Refusal>, line: &str) -> bool {
     match given {
-        Ok(mapped) => {
-            mapped.script_name.as_str() == word(line, 1)
-                && mapped.path_info.as_str() == value(word(line, 2))
-                && (mapped.index == 1) == (word(line, 1) == "/cgi-bin/hello")
-                && mapped.host == 0
-        }
+        Ok(mapped) => has_names(mapped, line, 1) && is_of_first_host(mapped, line),
         Err(_) => false,
     }
 }
 
-// The script of a GET in HTTP/1.1.
+// The target of a GET in HTTP/1.1.
+fn target_asked(alloc: Global, target: &str) -> Result<Target, Refusal> {
+    let head = head_for(alloc, "GET / 1.1 a.example:8080", target.as_bytes())?;
+    split_target(alloc, &head)
+}
+
+// Its script.
 fn asked(alloc: Global, site: &Site, target: &str) -> Result<Mapped, Refusal>
     requires { HasHosts site.now.hosts }
 {
-    let mut head = head(alloc, "GET / 1.1 a.example:8080", 3)?;
-    head.target = Bytes::from_slice(alloc, target.as_bytes())?;
-    let target = split_target(alloc, &head)?;
-    map(alloc, site, &target)
+    map(alloc, site, &target_asked(alloc, target)?)
 }
 
 const SCRIPTS: &str = "\
@@ -400,16 +384,21 @@ fn wrong_script<'a>(alloc: Global, site: &Site, table: &'a str) -> Option<&'a st
     None
 }
 
+fn has_path_info(given: &Result<Mapped, Refusal>, due: &str) -> bool {
+    match given {
+        Ok(mapped) => mapped.path_info.as_str() == due,
+        Err(_) => false,
+    }
+}
+
 #[test]
 fn scripts(rt: HostRuntime) -> Result<(), NoMemory> {
     let site = three_hosts(rt.alloc(), true, "/cgi-bin", "/cgi-bin/hello")?;
     if let Some(line) = wrong_script(rt.alloc(), &site, SCRIPTS) {
         panic!(&rt; "{line}");
     }
-    match asked(rt.alloc(), &site, "/cgi-bin/hello/a%20b/?x=1") {
-        Ok(mapped) => assert!(&rt; mapped.path_info.as_str() == "/a b/"),
-        Err(_) => panic!(&rt; "no script"),
-    }
+    let given = asked(rt.alloc(), &site, "/cgi-bin/hello/a%20b/?x=1");
+    assert!(&rt; has_path_info(&given, "/a b/"));
     Ok(())
 }
 
@@ -472,9 +461,7 @@ fn refused_paths(rt: HostRuntime) -> Result<(), NoMemory> {
 fn asked_at(alloc: Global, site: &Site, line: &str) -> Result<Mapped, Refusal>
     requires { HasHosts site.now.hosts }
 {
-    let head = head(alloc, line, 4)?;
-    let target = split_target(alloc, &head)?;
-    map(alloc, site, &target)
+    map(alloc, site, &target_of(alloc, line, 4)?)
 }
 
 fn place_name(host: u32) -> &'static str {
@@ -527,11 +514,16 @@ GET /%zz 1.1 UnknownHost c
 GET /%2e%2e/ 1.1 UnknownHost c
 GET http://e.example/u 1.1 UnknownHost a.example";
 
+fn is_host(alloc: Global, site: &Site, line: &str) -> bool
+    requires { HasHosts site.now.hosts }
+{
+    is_answer(&asked_at(alloc, site, line), line)
+}
+
 fn wrong_host<'a>(alloc: Global, any: bool, table: &'a str) -> Result<Option<&'a str>, NoMemory> {
     let site = three_hosts(alloc, any, "/s", "/both")?;
     for line in table.lines() {
-        let given = asked_at(alloc, &site, line);
-        if !is_answer(&given, line) {
+        if !is_host(alloc, &site, line) {
             return Ok(Some(line));
         }
     }
@@ -591,20 +583,23 @@ fn host_name(word: &str) -> Option<&[u8]> {
 
 fn is_decoded(given: &Result<Mapped, Refusal>, line: &str) -> bool {
     match given {
-        Ok(mapped) => {
-            mapped.script_name.as_str() == word(line, 2)
-                && mapped.path_info.as_str() == value(word(line, 3))
-        }
+        Ok(mapped) => has_names(mapped, line, 2),
         Err(_) => is_cause(given, word(line, 2)),
     }
+}
+
+// The script of a path that is decoded, at a host.
+fn decoded_at(alloc: Global, site: &Site, line: &str) -> Result<Mapped, Refusal>
+    requires { HasHosts site.now.hosts }
+{
+    let path = decoded(alloc, word(line, 0))?;
+    map_decoded(alloc, site, host_name(word(line, 1)), path.as_slice())
 }
 
 fn wrong_decoded<'a>(alloc: Global, table: &'a str) -> Result<Option<&'a str>, NoMemory> {
     let site = three_hosts(alloc, false, "/s", "/both")?;
     for line in table.lines() {
-        let path = decoded(alloc, word(line, 0))?;
-        let given = map_decoded(alloc, &site, host_name(word(line, 1)), path.as_slice());
-        if !is_decoded(&given, line) {
+        if !is_decoded(&decoded_at(alloc, &site, line), line) {
             return Ok(Some(line));
         }
     }
@@ -645,26 +640,42 @@ fn is_redirected(given: &Target, line: &str) -> bool {
         && is_value(&given.host, word(line, 1))
 }
 
-fn is_right_location(alloc: Global, line: &str) -> Result<bool, NoMemory> {
-    let location = decoded(alloc, value(word(line, 0)))?;
-    if !is_local(location.as_slice()) {
+fn is_old(target: &Target) -> bool {
+    target.path.as_slice() == b"/o?".as_slice() && is_value(&target.query, "-")
+}
+
+fn old_target(alloc: Global, host: &str) -> Result<Target, NoMemory> {
+    path_target(alloc, b"/old/../o?", host_name(host))
+}
+
+fn is_redirected_from(
+    alloc: Global,
+    location: &[u8],
+    old: &Target,
+    line: &str,
+) -> Result<bool, NoMemory>
+    requires { IsTrue (is_local location.now) }
+{
+    Ok(is_redirected(&redirect_target(alloc, location, old)?, line) && is_old(old))
+}
+
+fn is_location(alloc: Global, location: &[u8], line: &str) -> Result<bool, NoMemory> {
+    if !is_local(location) {
         return Ok(word(line, 2) == "no");
     }
-    let old = path_target(alloc, b"/old/../o?", host_name(word(line, 1)))?;
-    let given = redirect_target(alloc, location.as_slice(), &old)?;
-    Ok(
-        old.path.as_slice() == b"/o?".as_slice()
-            && is_value(&old.query, "-")
-            && is_redirected(&given, line),
-    )
+    let old = old_target(alloc, word(line, 1))?;
+    is_redirected_from(alloc, location, &old, line)
+}
+
+fn is_right_location(alloc: Global, line: &str) -> Result<bool, NoMemory> {
+    let location = decoded(alloc, value(word(line, 0)))?;
+    is_location(alloc, location.as_slice(), line)
 }
 
 #[test]
 fn locations(rt: HostRuntime) -> Result<(), NoMemory> {
     for line in LOCATIONS.lines() {
-        if !is_right_location(rt.alloc(), line)? {
-            panic!(&rt; "{line}");
-        }
+        assert!(&rt; is_right_location(rt.alloc(), line)?, "{line}");
     }
     Ok(())
 }
@@ -683,13 +694,14 @@ u@a -
 [::1 -
 a%z -";
 
+fn is_authority(line: &str) -> bool {
+    let given = authority_host(value(word(line, 0)).as_bytes());
+    given.unwrap_or(b"-") == word(line, 1).as_bytes()
+}
+
 #[test]
-fn authorities(rt: HostRuntime) -> Result<(), NoMemory> {
+fn authorities(rt: HostRuntime) {
     for line in AUTHORITIES.lines() {
-        let given = authority_host(value(word(line, 0)).as_bytes()).unwrap_or(b"-");
-        if given != word(line, 1).as_bytes() {
-            panic!(&rt; "{line}");
-        }
+        assert!(&rt; is_authority(line), "{line}");
     }
-    Ok(())
 }

@@ -1,5 +1,6 @@
 // Queries and their words, by the grammar of search strings.
 // A table has a case a line, its words with a space between: `-` is no query and `_` an empty one.
+use super::values::{shown_args, word};
 use host_base::NoMemory;
 use search_words::{Words, words_of};
 use std::alloc::Global;
@@ -14,14 +15,26 @@ fn query(word: &str) -> Option<&[u8]> {
 
 // The words with a bar after each.
 fn shown(alloc: Global, words: &Words) -> Result<String, NoMemory> {
-    let mut text = String::new(alloc);
-    if let Words::Args(args) = words {
-        for arg in args.as_slice() {
-            text.push_str(arg.as_str())?;
-            text.push('|')?;
-        }
+    match words {
+        Words::Args(args) => shown_args(alloc, args),
+        Words::Nothing => Ok(String::new(alloc)),
     }
-    Ok(text)
+}
+
+// What stands behind the second space of a line.
+fn wanted(line: &str) -> &str {
+    line.splitn(3, ' ').nth(2).unwrap_or("")
+}
+
+fn is_shown(alloc: Global, words: &Words, wanted: &str) -> Result<bool, NoMemory> {
+    match words {
+        Words::Args(_) => Ok(shown(alloc, words)?.as_str() == wanted),
+        Words::Nothing => Ok(wanted == "none"),
+    }
+}
+
+fn words_of_query(alloc: Global, method: &str, word: &str) -> Result<Words, NoMemory> {
+    words_of(alloc, method.as_bytes(), query(word))
 }
 
 // A method, a query and its words; `none` where there are no arguments.
@@ -61,15 +74,8 @@ PUT a none
 _ a none";
 
 fn is_right(alloc: Global, line: &str) -> Result<bool, NoMemory> {
-    let mut parts = line.splitn(3, ' ');
-    let method = parts.next().unwrap_or("");
-    let asked = parts.next().unwrap_or("");
-    let wanted = parts.next().unwrap_or("");
-    let given = words_of(alloc, method.as_bytes(), query(asked))?;
-    match given {
-        Words::Args(_) => Ok(shown(alloc, &given)?.as_str() == wanted),
-        Words::Nothing => Ok(wanted == "none"),
-    }
+    let given = words_of_query(alloc, word(line, 0), word(line, 1))?;
+    is_shown(alloc, &given, wanted(line))
 }
 
 #[test]
@@ -98,12 +104,15 @@ fn repeated(alloc: Global, more: usize) -> Result<String, NoMemory> {
     Ok(text)
 }
 
+fn count_given(alloc: Global, more: usize) -> Result<usize, NoMemory> {
+    let text = repeated(alloc, more)?;
+    Ok(count_of(&words_of_query(alloc, "GET", text.as_str())?))
+}
+
 #[test]
 fn at_most_sixty_four(rt: HostRuntime) -> Result<(), NoMemory> {
     for (more, count) in [(0, 1), (63, 64), (64, 0), (4000, 0)] {
-        let text = repeated(rt.alloc(), more)?;
-        let given = words_of(rt.alloc(), b"GET", Some(text.as_bytes()))?;
-        assert!(&rt; count_of(&given) == count);
+        assert!(&rt; count_given(rt.alloc(), more)? == count);
     }
     Ok(())
 }

@@ -1,5 +1,5 @@
 // Lists at their greatest lengths and one past them, and bytes that are no file at all.
-use super::lines::{outcome, said};
+use super::lines::{is_same, outcome, push_both, said};
 use std::alloc::{AllocError, Global};
 use std::process::Abort;
 use std::test::Fail;
@@ -13,25 +13,54 @@ struct Listed {
 
 fn file_of(alloc: Global, listed: &Listed, count: u32) -> Result<String, AllocError> {
     let mut text = String::from_str(alloc, listed.before)?;
-    let (front, back) = listed.entry;
-    for index in 0..count {
-        text.push_str(format!(in alloc; "{front}{index}{back}")?.as_str())?;
-    }
+    push_entries(alloc, &mut text, listed.entry, count)?;
     text.push_str(listed.after)?;
     Ok(text)
 }
 
+fn push_entry(
+    alloc: Global,
+    text: &mut String,
+    (front, back): (&str, &str),
+    index: u32,
+) -> Result<(), AllocError> {
+    text.push_str(format!(in alloc; "{front}{index}{back}")?.as_str())
+}
+
+fn push_entries(
+    alloc: Global,
+    text: &mut String,
+    entry: (&str, &str),
+    count: u32,
+) -> Result<(), AllocError> {
+    for index in 0..count {
+        push_entry(alloc, text, entry, index)?;
+    }
+    Ok(())
+}
+
+fn said_with(alloc: Global, listed: &Listed, count: u32) -> Result<String, AllocError> {
+    let text = file_of(alloc, listed, count)?;
+    said(alloc, text.as_bytes())
+}
+
 // A file with so many entries says this.
-fn says<R: Abort + AllocGlobal>(
+fn says<R: Abort>(
     rt: &R,
+    alloc: Global,
     listed: &Listed,
     count: u32,
     want: &str,
-) -> Result<(), Fail> {
-    let alloc = rt.alloc();
-    let text = file_of(alloc, listed, count)?;
-    assert_eq!(rt; said(alloc, text.as_bytes())?.as_str(), want, "{count}");
+) -> Result<(), AllocError> {
+    let given = said_with(alloc, listed, count)?;
+    assert_eq!(rt; given.as_str(), want, "{count}");
     Ok(())
+}
+
+fn out_of_range(alloc: Global, key: &str) -> Result<String, AllocError> {
+    let mut text = String::new(alloc);
+    push_both(&mut text, "out of range ", key)?;
+    Ok(text)
 }
 
 // A list has at most so many entries; one more is out of the range of this key.
@@ -41,9 +70,16 @@ fn is_bounded<R: Abort + AllocGlobal>(
     key: &str,
     listed: &Listed,
 ) -> Result<(), Fail> {
-    let want = format!(in rt.alloc(); "out of range {key}")?;
-    says(rt, listed, most, "ok")?;
-    says(rt, listed, most.saturating_add(1), want.as_str())
+    let want = out_of_range(rt.alloc(), key)?;
+    says(rt, rt.alloc(), listed, most, "ok")?;
+    says(
+        rt,
+        rt.alloc(),
+        listed,
+        most.saturating_add(1),
+        want.as_str(),
+    )?;
+    Ok(())
 }
 
 const SCRIPTS: Listed = Listed {
@@ -99,22 +135,56 @@ fn lists_of_version_2_are_bounded(rt: HostRuntime) -> Result<(), Fail> {
     is_bounded(&rt, 16, "host[0].documents", &DOCUMENTS)
 }
 
+const TYPE: &str = "version = 2\n[[host]]\nname = \"a\"\n[[host.documents]]\npath = \"/d\"\ntypes.";
+
+fn push_type(text: &mut String, extension: &str, kind: &str) -> Result<(), AllocError> {
+    push_both(text, TYPE, extension)?;
+    push_both(text, " = \"", kind)?;
+    text.push_str("\"\n")
+}
+
+fn said_of_type(alloc: Global, extension: &str, kind: &str) -> Result<String, AllocError> {
+    let mut text = String::new(alloc);
+    push_type(&mut text, extension, kind)?;
+    said(alloc, text.as_bytes())
+}
+
+// What is said of a type that is taken, or not.
+fn due_of_type(alloc: Global, extension: &str, is_taken: bool) -> Result<String, AllocError> {
+    let mut text = String::new(alloc);
+    if is_taken {
+        text.push_str("ok")?;
+    } else {
+        push_both(
+            &mut text,
+            "out of range host[0].documents[0].types.",
+            extension,
+        )?;
+    }
+    Ok(text)
+}
+
+// Whether an extension and a type of so many bytes are taken is said so.
+fn is_type_said<R: Abort>(
+    rt: &R,
+    alloc: Global,
+    extension: usize,
+    kind: usize,
+    is_taken: bool,
+) -> Result<(), AllocError> {
+    let extension = "a".repeat(alloc, extension)?;
+    let kind = "b".repeat(alloc, kind)?;
+    let want = due_of_type(alloc, extension.as_str(), is_taken)?;
+    let given = said_of_type(alloc, extension.as_str(), kind.as_str())?;
+    is_same(rt, given.as_str(), want.as_str());
+    Ok(())
+}
+
 // An extension and a type have at most 100 bytes.
 #[test]
 fn types_are_bounded(rt: HostRuntime) -> Result<(), Fail> {
-    let alloc = rt.alloc();
     for (extension, kind, is_taken) in [(100, 100, true), (101, 1, false), (1, 101, false)] {
-        let extension = "a".repeat(alloc, extension)?;
-        let kind = "b".repeat(alloc, kind)?;
-        let text = format!(in alloc;
-            "version = 2\n[[host]]\nname = \"a\"\n[[host.documents]]\npath = \"/d\"\ntypes.{extension} = \"{kind}\"\n"
-        )?;
-        let want = if is_taken {
-            String::from_str(alloc, "ok")?
-        } else {
-            format!(in alloc; "out of range host[0].documents[0].types.{extension}")?
-        };
-        assert_eq!(rt; said(alloc, text.as_bytes())?.as_str(), want.as_str());
+        is_type_said(&rt, rt.alloc(), extension, kind, is_taken)?;
     }
     Ok(())
 }
@@ -130,7 +200,7 @@ fn bytes_that_are_no_file(rt: HostRuntime) -> Result<(), Fail> {
         (b"x", "not TOML"),
     ];
     for (bytes, want) in table {
-        assert_eq!(rt; outcome(rt.alloc(), bytes)?.as_str(), want);
+        is_same(&rt, outcome(rt.alloc(), bytes)?.as_str(), want);
     }
     Ok(())
 }

@@ -1,8 +1,9 @@
 // The examples of the format, and how they are written.
-use super::lines::{line_of, outcome, words_of};
-use host_base::Text;
-use site_file::{one_script, read_site, write_site};
+use super::lines::{is_same, outcome, outcome_of, site_of};
+use host_base::{Site, Text};
+use site_file::{SiteFault, one_script, read_site, write_site};
 use std::alloc::{AllocError, Global};
+use std::process::Abort;
 use std::test::Fail;
 
 const EXAMPLE: &str = "version = 1
@@ -55,37 +56,40 @@ path = \"/t\"
 // The keys that stand in the first example, and the defaults of all others.
 #[test]
 fn the_first_example_is_read(rt: HostRuntime) -> Result<(), Fail> {
-    let alloc = rt.alloc();
     let want =
         "127.0.0.1:8080; localhost* /srv/www /cgi-bin/hello=/srv/cgi/hello /ws=websocket:/srv/cgi/lines<http://example.com";
-    assert_eq!(rt; outcome(alloc, EXAMPLE.as_bytes())?.as_str(), want);
+    is_same(&rt, outcome(rt.alloc(), EXAMPLE.as_bytes())?.as_str(), want);
     Ok(())
+}
+
+fn has_defaults<R: Abort>(rt: &R, site: &Site) {
+    assert_eq!(rt; (site.limits.run_ticks, site.limits.head), (600, 16_384));
 }
 
 #[test]
 fn limits_have_defaults(rt: HostRuntime) -> Result<(), Fail> {
-    let site = read_site(rt.alloc(), EXAMPLE.as_bytes())
-        .ok()
-        .ok_or("refused")?;
-    assert_eq!(rt; (site.limits.run_ticks, site.limits.head), (600, 16_384));
+    match site_of(rt.alloc(), EXAMPLE.as_bytes()) {
+        Ok(site) => has_defaults(&rt, &site),
+        Err(_) => return Err("refused".into()),
+    }
     Ok(())
 }
 
 #[test]
 fn the_second_example_is_read(rt: HostRuntime) -> Result<(), Fail> {
-    let alloc = rt.alloc();
     let want =
         "127.0.0.1:8080; a.example,www.a.example /srv/www /s=/srv/cgi/s /d=documents:0; b.example* /srv/b /t=documents:1; docs /srv/d html=text/html txt=text/plain; docs /srv/www";
-    assert_eq!(rt; outcome(alloc, SECOND.as_bytes())?.as_str(), want);
+    is_same(&rt, outcome(rt.alloc(), SECOND.as_bytes())?.as_str(), want);
     Ok(())
 }
 
 // The site of one script, or its fault.
 fn one_said(alloc: Global, path: &str, program: &str) -> Result<String, AllocError> {
-    match one_script(alloc, path, program) {
-        Ok(site) => line_of(alloc, &site),
-        Err(fault) => words_of(alloc, &fault),
-    }
+    outcome_of(alloc, &site_of_one(alloc, path, program))
+}
+
+fn site_of_one(alloc: Global, path: &str, program: &str) -> Result<Site, SiteFault> {
+    one_script(alloc, path, program)
 }
 
 #[test]
@@ -99,7 +103,7 @@ fn one_script_is_a_site(rt: HostRuntime) -> Result<(), Fail> {
         ("s", "cat", "out of range script[0].path"),
         ("/s", "/bin/", "out of range script[0].program"),
     ] {
-        assert_eq!(rt; one_said(rt.alloc(), path, program)?.as_str(), want);
+        is_same(&rt, one_said(rt.alloc(), path, program)?.as_str(), want);
     }
     Ok(())
 }
@@ -149,16 +153,25 @@ fn written(alloc: Global, text: &str) -> Result<Text, Fail> {
 
 #[test]
 fn sites_are_written(rt: HostRuntime) -> Result<(), Fail> {
-    assert_eq!(rt; written(rt.alloc(), EXAMPLE)?.as_str(), WRITTEN);
+    is_same(&rt, written(rt.alloc(), EXAMPLE)?.as_str(), WRITTEN);
+    Ok(())
+}
+
+// What is written of the site of a text says what the text does.
+fn reads_back<R: Abort>(rt: &R, alloc: Global, text: &str) -> Result<(), Fail> {
+    let again = outcome(alloc, written(alloc, text)?.as_bytes())?;
+    is_same(
+        rt,
+        again.as_str(),
+        outcome(alloc, text.as_bytes())?.as_str(),
+    );
     Ok(())
 }
 
 #[test]
 fn what_is_written_reads_back(rt: HostRuntime) -> Result<(), Fail> {
-    let alloc = rt.alloc();
     for text in [EXAMPLE, SECOND] {
-        let again = outcome(alloc, written(alloc, text)?.as_bytes())?;
-        assert_eq!(rt; again.as_str(), outcome(alloc, text.as_bytes())?.as_str());
+        reads_back(&rt, rt.alloc(), text)?;
     }
     Ok(())
 }

@@ -1,5 +1,6 @@
 // Each key with a value of each kind but its own.
-use super::lines::{file_of, said};
+use super::lines::{file_of, is_said, push_both, said};
+use std::alloc::{AllocError, Global};
 use std::process::Abort;
 use std::test::Fail;
 
@@ -56,26 +57,61 @@ array: []
 table: {}
 "#;
 
-fn wrong_kinds<R: Abort + AllocGlobal>(
+// The two parts of a text, or what is missing.
+fn parts_of<'t>(
+    text: &'t str,
+    between: &str,
+    missing: &'static str,
+) -> Result<(&'t str, &'t str), Fail> {
+    Ok(text.split_once(between).ok_or(missing)?)
+}
+
+fn joined(alloc: Global, front: &str, middle: &str, back: &str) -> Result<String, AllocError> {
+    let mut text = String::from_str(alloc, front)?;
+    push_both(&mut text, middle, back)?;
+    Ok(text)
+}
+
+// What a file says with a value between two texts.
+fn said_with(alloc: Global, before: &str, value: &str, after: &str) -> Result<String, AllocError> {
+    let line = joined(alloc, before, value, after)?;
+    let text = file_of(alloc, "", line.as_str(), "")?;
+    said(alloc, text.as_bytes())
+}
+
+// A value of another kind than a key's is refused in a file.
+fn is_wrong_kind<R: Abort>(
     rt: &R,
+    alloc: Global,
     key: &str,
-    kind: &str,
     file: &str,
+    value: &str,
 ) -> Result<(), Fail> {
-    let alloc = rt.alloc();
-    let (before, after) = file.split_once('?').ok_or("no value")?;
-    for row in VALUES.lines() {
-        let (other, value) = row.split_once(": ").ok_or("no kind")?;
-        if other != kind {
-            let line = format!(in alloc; "{before}{value}{after}")?;
-            let text = file_of(alloc, "", line.as_str(), "")?;
-            let want = format!(in alloc; "wrong kind {key}")?;
-            assert_eq!(rt;
-                said(alloc, text.as_bytes())?.as_str(),
-                want.as_str(),
-                "at {value}"
-            );
-        }
+    let (before, after) = parts_of(file, "?", "no value")?;
+    let want = joined(alloc, "wrong kind ", key, "")?;
+    let given = said_with(alloc, before, value, after)?;
+    is_said(rt, given.as_str(), want.as_str(), value);
+    Ok(())
+}
+
+fn is_other_kind<R: Abort>(
+    rt: &R,
+    alloc: Global,
+    (key, kind, file): (&str, &str, &str),
+    row: &str,
+) -> Result<(), Fail> {
+    let (other, value) = parts_of(row, ": ", "no kind")?;
+    if other == kind {
+        return Ok(());
+    }
+    is_wrong_kind(rt, alloc, key, file, value)
+}
+
+fn wrong_kinds<R: Abort>(rt: &R, alloc: Global, row: &str) -> Result<(), Fail> {
+    let (key, rest) = parts_of(row, ": ", "no key")?;
+    let (kind, file) = parts_of(rest, ": ", "no kind")?;
+    for value in VALUES.lines() {
+        is_other_kind(rt, alloc, (key, kind, file), value)?;
     }
     Ok(())
 }
@@ -83,9 +119,7 @@ fn wrong_kinds<R: Abort + AllocGlobal>(
 #[test]
 fn kinds_are_wanted(rt: HostRuntime) -> Result<(), Fail> {
     for row in KEYS.lines() {
-        let (key, rest) = row.split_once(": ").ok_or("no key")?;
-        let (kind, file) = rest.split_once(": ").ok_or("no kind")?;
-        wrong_kinds(&rt, key, kind, file)?;
+        wrong_kinds(&rt, rt.alloc(), row)?;
     }
     Ok(())
 }

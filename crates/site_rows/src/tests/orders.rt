@@ -1,5 +1,5 @@
 // Files with two faults say the first by the order of the format.
-use super::lines::said;
+use super::lines::{push_both, said};
 use std::alloc::{AllocError, Global};
 use std::process::Abort;
 use std::test::Fail;
@@ -16,42 +16,58 @@ fn file_with(
 ) -> Result<String, AllocError> {
     let mut text = String::new(alloc);
     for (index, place) in places.iter().enumerate() {
-        text.push_str(place.0)?;
-        text.push_str(if index == one || index == other {
-            place.2
-        } else {
-            place.1
-        })?;
+        push_place(&mut text, place, index == one || index == other)?;
     }
     Ok(text)
 }
 
+fn push_place(text: &mut String, place: &Place, faulty: bool) -> Result<(), AllocError> {
+    push_both(text, place.0, if faulty { place.2 } else { place.1 })
+}
+
+fn said_with(
+    alloc: Global,
+    places: &[Place],
+    one: usize,
+    other: usize,
+) -> Result<String, AllocError> {
+    let text = file_with(alloc, places, one, other)?;
+    said(alloc, text.as_bytes())
+}
+
+// The file with a fault at two places says this.
+fn says<R: Abort>(
+    rt: &R,
+    alloc: Global,
+    places: &[Place],
+    (one, other): (usize, usize),
+    want: &str,
+) -> Result<(), AllocError> {
+    let given = said_with(alloc, places, one, other)?;
+    assert_eq!(rt; given.as_str(), want, "{other}");
+    Ok(())
+}
+
 // A fault is said alone, and before each that stands behind it.
-fn is_said_first<R: Abort + AllocGlobal>(rt: &R, places: &[Place], one: usize) -> Result<(), Fail> {
-    let place = places.get(one).ok_or("no place")?;
+fn is_said_first<R: Abort>(
+    rt: &R,
+    alloc: Global,
+    places: &[Place],
+    one: usize,
+    want: &str,
+) -> Result<(), AllocError> {
     for other in one..places.len() {
-        let text = file_with(rt.alloc(), places, one, other)?;
-        assert_eq!(rt;
-            said(rt.alloc(), text.as_bytes())?.as_str(),
-            place.3,
-            "{other}"
-        );
+        says(rt, alloc, places, (one, other), want)?;
     }
     Ok(())
 }
 
-// The file without a fault says this.
-fn whole_says<R: Abort + AllocGlobal>(rt: &R, places: &[Place], want: &str) -> Result<(), Fail> {
-    let end = places.len();
-    let text = file_with(rt.alloc(), places, end, end)?;
-    assert_eq!(rt; said(rt.alloc(), text.as_bytes())?.as_str(), want, "{end}");
-    Ok(())
-}
-
+// The file without a fault says that it is right.
 fn are_said_in_order<R: Abort + AllocGlobal>(rt: &R, places: &[Place]) -> Result<(), Fail> {
-    whole_says(rt, places, "ok")?;
-    for one in 0..places.len() {
-        is_said_first(rt, places, one)?;
+    let alloc = rt.alloc();
+    says(rt, alloc, places, (places.len(), places.len()), "ok")?;
+    for (one, place) in places.iter().enumerate() {
+        is_said_first(rt, alloc, places, one, place.3)?;
     }
     Ok(())
 }

@@ -1,9 +1,37 @@
 // Files that differ in a few keys, and what they say, by the tables of the format.
-use super::lines::{file_of, said};
+use super::lines::{file_of, is_said, said};
+use std::alloc::{AllocError, Global};
 use std::process::Abort;
 use std::test::Fail;
 
-// Each row has what stands in a file between two texts, and what it says.
+// What a file says in which a line stands between two texts.
+fn said_of(alloc: Global, before: &str, line: &str, after: &str) -> Result<String, AllocError> {
+    let text = file_of(alloc, before, line, after)?;
+    said(alloc, text.as_bytes())
+}
+
+// A row has what stands in a file between two texts, and what it says.
+fn parts_of(row: &str) -> Result<(&str, &str), Fail> {
+    Ok(row.split_once(" => ").ok_or("no row")?)
+}
+
+fn check_row<R: Abort>(
+    rt: &R,
+    alloc: Global,
+    before: &str,
+    row: &str,
+    after: &str,
+) -> Result<(), Fail> {
+    let (line, want) = parts_of(row)?;
+    is_said(
+        rt,
+        said_of(alloc, before, line, after)?.as_str(),
+        want,
+        line,
+    );
+    Ok(())
+}
+
 fn check<R: Abort + AllocGlobal>(
     rt: &R,
     before: &str,
@@ -12,9 +40,7 @@ fn check<R: Abort + AllocGlobal>(
 ) -> Result<(), Fail> {
     let alloc = rt.alloc();
     for row in rows.lines() {
-        let (line, want) = row.split_once(" => ").ok_or("no row")?;
-        let text = file_of(alloc, before, line, after)?;
-        assert_eq!(rt; said(alloc, text.as_bytes())?.as_str(), want, "at {line}");
+        check_row(rt, alloc, before, row, after)?;
     }
     Ok(())
 }

@@ -1,7 +1,8 @@
 // A story: the requests of a client, and what comes to pass once its WebSocket is open.
 use super::asks::{Ask, OPENERS, OTHERS};
 use super::numbers::Numbers;
-use host_base::{Bytes, NoMemory};
+use super::parts::Parts;
+use host_base::NoMemory;
 use std::alloc::Global;
 
 #[derive(Clone, Copy)]
@@ -113,111 +114,124 @@ const FLOODS: [&[Beat]; 3] = [
 #[derive(Drop)]
 pub struct Story {
     pub asks: Vec<Ask>,
-    pub stream: Bytes,
+    pub stream: Parts,
     pub beats: Vec<Beat>,
-}
-
-fn ask_at(
-    table: &[Ask],
-    place: usize,
-    asks: &mut Vec<Ask>,
-    stream: &mut Bytes,
-) -> Result<(), NoMemory> {
-    if let Some(ask) = table.get(place) {
-        stream.extend_from_slice(ask.bytes)?;
-        asks.push(*ask)?;
-    }
-    Ok(())
+    // Memory was wanting for a request or a beat.
+    lost: bool,
 }
 
 impl Story {
-    fn push_all(&mut self, beats: &[Beat]) -> Result<(), NoMemory> {
+    fn push(&mut self, beat: Beat) {
+        self.lost |= self.beats.push(beat).is_err();
+    }
+
+    fn push_all(&mut self, beats: &[Beat]) {
         for beat in beats {
-            self.beats.push(*beat)?;
+            self.push(*beat);
         }
-        Ok(())
     }
 
-    fn push_at(&mut self, table: &[Beat], place: usize) -> Result<(), NoMemory> {
+    fn push_at(&mut self, table: &[Beat], place: usize) {
         if let Some(beat) = table.get(place) {
-            self.beats.push(*beat)?;
+            self.push(*beat);
         }
-        Ok(())
     }
 
-    fn push_list(&mut self, table: &[&[Beat]], place: usize) -> Result<(), NoMemory> {
-        match table.get(place) {
-            Some(beats) => self.push_all(beats),
-            None => Ok(()),
+    fn push_list(&mut self, table: &[&[Beat]], place: usize) {
+        if let Some(beats) = table.get(place) {
+            self.push_all(*beats);
+        }
+    }
+
+    fn push_ask(&mut self, ask: Ask) {
+        self.stream.add(ask.bytes);
+        self.lost |= self.asks.push(ask).is_err();
+    }
+
+    fn push_ask_at(&mut self, table: &[Ask], place: usize) {
+        if let Some(ask) = table.get(place) {
+            self.push_ask(*ask);
         }
     }
 
     // The client's requests, of which the last opens a WebSocket but in one of a few stories, and bytes behind them.
-    fn add_asks(&mut self, numbers: &mut Numbers) -> Result<(), NoMemory> {
+    fn add_asks(&mut self, numbers: &mut Numbers) {
         for _ in 0..numbers.place(3) {
-            let place = numbers.place(OTHERS.len());
-            ask_at(&OTHERS, place, &mut self.asks, &mut self.stream)?;
+            self.push_ask_at(&OTHERS, numbers.place(OTHERS.len()));
         }
         if numbers.once_in(12) {
-            return Ok(());
+            return;
         }
-        let place = numbers.place(OPENERS.len());
-        ask_at(&OPENERS, place, &mut self.asks, &mut self.stream)?;
+        self.push_ask_at(&OPENERS, numbers.place(OPENERS.len()));
         if numbers.once_in(3) {
-            self.stream.extend_from_slice(b"\x81\x85rest".as_slice())?;
+            self.stream.add(b"\x81\x85rest".as_slice());
         }
-        Ok(())
+    }
+
+    fn add_turn(&mut self, numbers: &mut Numbers) {
+        self.push_at(&TURNS, numbers.place(TURNS.len()));
     }
 
     // They are sent, in one story of eight with a turn between.
-    fn add_sends(&mut self, numbers: &mut Numbers) -> Result<(), NoMemory> {
+    fn add_sends(&mut self, numbers: &mut Numbers) {
         let len = self.stream.len();
         if numbers.once_in(8) {
-            self.beats.push(Send(numbers.place(len.saturating_add(1))))?;
-            self.push_at(&TURNS, numbers.place(TURNS.len()))?;
+            self.push(Send(numbers.place(len.saturating_add(1))));
+            self.add_turn(numbers);
         }
-        self.beats.push(Send(len))?;
-        Ok(())
+        self.push(Send(len));
     }
 
-    fn add_start(&mut self, numbers: &mut Numbers) -> Result<(), NoMemory> {
+    fn add_start(&mut self, numbers: &mut Numbers) {
         if numbers.once_in(12) {
-            self.push_at(&TURNS, numbers.place(TURNS.len()))?;
+            self.add_turn(numbers);
         }
-        self.beats.push(match numbers.below(16) {
+        self.push(match numbers.below(16) {
             0 => StartFailed,
             1 => StartFull,
             _ => Started,
-        })?;
-        Ok(())
+        });
     }
 
-    fn add_talk(&mut self, numbers: &mut Numbers) -> Result<(), NoMemory> {
+    fn add_beat(&mut self, numbers: &mut Numbers) {
+        if numbers.once_in(10) {
+            self.add_turn(numbers);
+        } else {
+            self.push_at(&CALM, numbers.place(CALM.len()));
+        }
+    }
+
+    fn add_talk(&mut self, numbers: &mut Numbers) {
         if numbers.once_in(50) {
-            self.push_list(&FLOODS, numbers.place(FLOODS.len()))?;
+            self.push_list(&FLOODS, numbers.place(FLOODS.len()));
         }
         for _ in 0..numbers.place(16) {
-            if numbers.once_in(10) {
-                self.push_at(&TURNS, numbers.place(TURNS.len()))?;
-            } else {
-                self.push_at(&CALM, numbers.place(CALM.len()))?;
-            }
+            self.add_beat(numbers);
         }
-        self.push_list(&ENDS, numbers.place(ENDS.len()))?;
-        self.push_all(&[Tick, Stop, Tick, Exited, Tick])
+        self.push_list(&ENDS, numbers.place(ENDS.len()));
+        self.push_all(&[Tick, Stop, Tick, Exited, Tick]);
     }
+}
+
+fn made_of(alloc: Global, numbers: &mut Numbers) -> Story {
+    let mut story = Story {
+        asks: Vec::new(alloc),
+        stream: Parts::new(alloc),
+        beats: Vec::new(alloc),
+        lost: false,
+    };
+    story.add_asks(numbers);
+    story.add_sends(numbers);
+    story.add_start(numbers);
+    story.add_talk(numbers);
+    story
 }
 
 pub fn story_of(alloc: Global, seed: u64) -> Result<Story, NoMemory> {
     let mut numbers = Numbers::new(seed);
-    let mut story = Story {
-        asks: Vec::new(alloc),
-        stream: Bytes::new(alloc),
-        beats: Vec::new(alloc),
-    };
-    story.add_asks(&mut numbers)?;
-    story.add_sends(&mut numbers)?;
-    story.add_start(&mut numbers)?;
-    story.add_talk(&mut numbers)?;
+    let story = made_of(alloc, &mut numbers);
+    if story.lost || story.stream.is_lost() {
+        return Err(NoMemory);
+    }
     Ok(story)
 }

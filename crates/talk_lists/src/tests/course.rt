@@ -3,11 +3,11 @@ use super::asks::OUTPUT;
 use super::beats::{Beat, Story};
 use super::kid::Kid;
 use super::numbers::Numbers;
+use super::parts::Parts;
 use super::plain::Plain;
 use host_base::{Bytes, NoMemory, Peer, Text};
 use host_trace::Event;
 use std::alloc::Global;
-use std::mem;
 
 // How what comes is cut: requests, output, and the counts of what leaves and is taken.
 #[derive(Clone, Copy, PartialEq, Eq)]
@@ -31,13 +31,14 @@ pub struct Course<'s> {
 
 const MOST: usize = 4000;
 
-// An event of the client, or of all.
-fn client_event(alloc: Global, beat: Beat) -> Result<Event, NoMemory> {
-    Ok(match beat {
-        Beat::Text(bytes) => Event::WsText {
-            c: 0,
-            bytes: Bytes::from_slice(alloc, bytes)?,
-        },
+fn text_event(alloc: Global, bytes: &[u8]) -> Result<Event, NoMemory> {
+    let bytes = Bytes::from_slice(alloc, bytes)?;
+    Ok(Event::WsText { c: 0, bytes })
+}
+
+// An event of the client, or of all, that brings nothing.
+fn client_event(beat: Beat) -> Event {
+    match beat {
         Beat::Binary => Event::WsBinary { c: 0 },
         Beat::Closed => Event::WsClosed { c: 0 },
         Beat::Bad => Event::WsBad { c: 0 },
@@ -45,11 +46,11 @@ fn client_event(alloc: Global, beat: Beat) -> Result<Event, NoMemory> {
         Beat::NoRoom => Event::NoRoom { c: 0 },
         Beat::Tick => Event::Tick { secs: 784_111_777 },
         _ => Event::Stop,
-    })
+    }
 }
 
-fn event_of(alloc: Global, beat: Beat, k: u64) -> Result<Event, NoMemory> {
-    Ok(match beat {
+fn child_event(beat: Beat, k: u64) -> Event {
+    match beat {
         Beat::Started => Event::Started { k },
         Beat::StartFailed => Event::StartFailed { k },
         Beat::StartFull => Event::StartFull { k, seen: 64 },
@@ -57,18 +58,42 @@ fn event_of(alloc: Global, beat: Beat, k: u64) -> Result<Event, NoMemory> {
         Beat::OutBroken => Event::ChildBroken { k },
         Beat::InGone => Event::InputGone { k },
         Beat::Exited => Event::Exited { k },
-        _ => client_event(alloc, beat)?,
-    })
+        _ => client_event(beat),
+    }
+}
+
+fn event_of(alloc: Global, beat: Beat, k: u64) -> Result<Event, NoMemory> {
+    match beat {
+        Beat::Text(bytes) => text_event(alloc, bytes),
+        _ => Ok(child_event(beat, k)),
+    }
+}
+
+fn accepted(alloc: Global) -> Result<Event, NoMemory> {
+    let text = Text::copy_of(alloc, "192.0.2.1")?;
+    Ok(Event::Accepted { peer: Peer(text) })
+}
+
+fn client_bytes(alloc: Global, bytes: &[u8]) -> Result<Event, NoMemory> {
+    let bytes = Bytes::from_slice(alloc, bytes)?;
+    Ok(Event::ClientBytes { c: 0, bytes })
+}
+
+fn child_bytes(alloc: Global, k: u64, bytes: &[u8]) -> Result<Event, NoMemory> {
+    let bytes = Bytes::from_slice(alloc, bytes)?;
+    Ok(Event::ChildBytes { k, bytes })
 }
 
 // So many lines as long as may be.
-fn lines_of(alloc: Global, count: usize) -> Result<Bytes, NoMemory> {
-    let mut bytes = Bytes::new(alloc);
+fn lines_of(alloc: Global, count: usize) -> Parts {
+    let mut lines = Parts::new(alloc);
     for _ in 0..count {
-        bytes.extend_from_slice(b"aaaaaaaa\n".as_slice())?;
+        lines.push("aaaaaaaa\n");
     }
-    Ok(bytes)
+    lines
 }
+
+const NO_BYTES: &[u8] = &[];
 
 // Whether such an event may come of the child.
 fn fits_kid(kid: &Kid, beat: Beat) -> bool {
@@ -110,10 +135,18 @@ impl<'s> Course<'s> {
         }
     }
 
-    fn tell(&mut self, event: Event) -> Result<(), NoMemory> {
-        self.plain.step(self.story, &event)?;
-        self.events.push(event)?;
-        Ok(())
+    fn tell(&mut self, event: Event) {
+        self.plain.step(self.story, &event);
+        if self.events.push(event).is_err() {
+            self.plain.told.lose();
+        }
+    }
+
+    fn tell_made(&mut self, event: Result<Event, NoMemory>) {
+        match event {
+            Ok(event) => self.tell(event),
+            Err(_) => self.plain.told.lose(),
+        }
     }
 
     // The length of the next piece, where so much is left. A long string ends in single bytes.
@@ -138,163 +171,181 @@ impl<'s> Course<'s> {
 
     // ---- the client's requests
 
+    // So many bytes of them.
+    fn part(&self, count: usize) -> &'s [u8] {
+        let from = self.plain.got;
+        let stream = self.story.stream.as_slice();
+        stream
+            .get(from..from.saturating_add(count))
+            .unwrap_or(NO_BYTES)
+    }
+
     // A piece of them, where the client is asked for it; false where it isn't.
-    fn send_piece(&mut self) -> Result<bool, NoMemory> {
+    fn send_piece(&mut self) -> bool {
         let open = self.plain.asked && !self.plain.upgraded && !self.plain.shut;
         let left = self.to.saturating_sub(self.plain.got);
         if !open || left == 0 {
-            return Ok(false);
+            return false;
         }
         let count = self.piece(left);
-        let from = self.plain.got;
-        let part = self
-            .story
-            .stream
-            .as_slice()
-            .get(from..from.saturating_add(count))
-            .unwrap_or(&[]);
-        let bytes = Bytes::from_slice(self.alloc, part)?;
-        self.tell(Event::ClientBytes { c: 0, bytes })?;
-        Ok(true)
+        self.tell_made(client_bytes(self.alloc, self.part(count)));
+        true
+    }
+
+    fn has_script(&self) -> bool {
+        match &self.plain.kid {
+            Some(kid) => !kid.talks && !kid.started && !self.plain.shut,
+            None => false,
+        }
     }
 
     // The script of a request runs, where it waits to be started; false where none does.
-    fn run_script(&mut self) -> Result<bool, NoMemory> {
-        let waits = match &self.plain.kid {
-            Some(kid) => !kid.talks && !kid.started,
-            None => false,
-        };
-        if !waits || self.plain.shut {
-            return Ok(false);
+    fn run_script(&mut self) -> bool {
+        if !self.has_script() {
+            return false;
         }
-        self.give(Beat::Started)?;
-        self.pour(OUTPUT)?;
-        self.give(Beat::OutEnd)?;
-        self.give(Beat::Exited)?;
-        Ok(true)
+        self.give(Beat::Started);
+        self.pour(OUTPUT);
+        self.give(Beat::OutEnd);
+        self.give(Beat::Exited);
+        true
     }
 
     // All that may be sent of them.
-    fn send(&mut self) -> Result<(), NoMemory> {
+    fn send(&mut self) {
         for _ in 0..MOST {
-            if !self.run_script()? && !self.send_piece()? {
-                break;
+            if !self.run_script() && !self.send_piece() {
+                return;
             }
         }
-        Ok(())
     }
 
     // ---- what waits
 
-    // All that waits to be sent leaves.
-    fn leave(&mut self) -> Result<(), NoMemory> {
-        for _ in 0..MOST {
-            let left = self.plain.waits;
-            if left == 0 || self.plain.shut {
-                break;
-            }
-            let n = self.piece(left) as u64;
-            self.tell(Event::Wrote { c: 0, n })?;
+    fn leave_piece(&mut self) -> bool {
+        let left = self.plain.waits;
+        if left == 0 || self.plain.shut {
+            return false;
         }
-        Ok(())
+        let n = self.piece(left) as u64;
+        self.tell(Event::Wrote { c: 0, n });
+        true
+    }
+
+    // All that waits to be sent leaves.
+    fn leave(&mut self) {
+        for _ in 0..MOST {
+            if !self.leave_piece() {
+                return;
+            }
+        }
     }
 
     // .. where it keeps the client and the child from being asked.
-    fn unblock(&mut self) -> Result<(), NoMemory> {
-        if self.plain.has_room() {
-            return Ok(());
+    fn unblock(&mut self) {
+        if !self.plain.has_room() {
+            self.leave();
         }
-        self.leave()
+    }
+
+    fn untaken(&self) -> usize {
+        match &self.plain.kid {
+            Some(kid) => kid.fed.saturating_sub(kid.taken),
+            None => 0,
+        }
+    }
+
+    fn take_piece(&mut self) -> bool {
+        let left = self.untaken();
+        if left == 0 {
+            return false;
+        }
+        let n = self.piece(left) as u64;
+        let k = self.kid_number();
+        self.tell(Event::Took { k, n });
+        true
     }
 
     // The child takes all that it was fed.
-    fn take(&mut self) -> Result<(), NoMemory> {
+    fn take(&mut self) {
         for _ in 0..MOST {
-            let left = match &self.plain.kid {
-                Some(kid) => kid.fed.saturating_sub(kid.taken),
-                None => 0,
-            };
-            if left == 0 {
-                break;
+            if !self.take_piece() {
+                return;
             }
-            let n = self.piece(left) as u64;
-            let k = self.kid_number();
-            self.tell(Event::Took { k, n })?;
         }
-        Ok(())
     }
 
     // ---- the child's output
 
-    fn pour(&mut self, bytes: &[u8]) -> Result<(), NoMemory> {
+    fn may_write(&self) -> bool {
+        match &self.plain.kid {
+            Some(kid) => kid.may_write(),
+            None => false,
+        }
+    }
+
+    // A piece of an output, of which it gives the rest.
+    fn pour_piece<'b>(&mut self, bytes: &'b [u8]) -> &'b [u8] {
+        let count = self.piece(bytes.len()).min(bytes.len());
+        let (front, rest) = bytes.split_at(count);
+        self.tell_made(child_bytes(self.alloc, self.kid_number(), front));
+        rest
+    }
+
+    fn pour(&mut self, bytes: &[u8]) {
         let mut rest = bytes;
         for _ in 0..MOST {
             if rest.is_empty() {
-                break;
+                return;
             }
-            self.unblock()?;
-            let open = match &self.plain.kid {
-                Some(kid) => kid.may_write(),
-                None => false,
-            };
-            if !open {
-                break;
+            self.unblock();
+            if !self.may_write() {
+                return;
             }
-            let count = self.piece(rest.len()).min(rest.len());
-            let (front, behind) = rest.split_at(count);
-            let bytes = Bytes::from_slice(self.alloc, front)?;
-            let k = self.kid_number();
-            self.tell(Event::ChildBytes { k, bytes })?;
-            rest = behind;
+            rest = self.pour_piece(rest);
         }
-        Ok(())
     }
 
     // A flood comes in pieces as long as may be, however the story is cut.
-    fn fill(&mut self, count: usize) -> Result<(), NoMemory> {
-        let bytes = lines_of(self.alloc, count)?;
-        let cut = mem::replace(&mut self.cut, Cut::Whole);
-        let poured = self.pour(bytes.as_slice());
+    fn fill(&mut self, count: usize) {
+        let lines = lines_of(self.alloc, count);
+        let cut = self.cut;
+        self.cut = Cut::Whole;
+        self.pour(lines.as_slice());
         self.cut = cut;
-        poured
+        if lines.is_lost() {
+            self.plain.told.lose();
+        }
     }
 
     // ---- beats
 
-    fn give(&mut self, beat: Beat) -> Result<(), NoMemory> {
-        if !fits(&self.plain, beat) {
-            return Ok(());
+    fn give(&mut self, beat: Beat) {
+        if fits(&self.plain, beat) {
+            self.tell_made(event_of(self.alloc, beat, self.kid_number()));
         }
-        let event = event_of(self.alloc, beat, self.kid_number())?;
-        self.tell(event)
     }
 
-    fn beat(&mut self, beat: Beat) -> Result<(), NoMemory> {
+    fn beat(&mut self, beat: Beat) {
         match beat {
-            Beat::Send(to) => {
-                self.to = to;
-                Ok(())
-            }
+            Beat::Send(to) => self.to = to,
             Beat::Out(bytes) => self.pour(bytes),
             Beat::Fill(count) => self.fill(count),
             Beat::Wrote => self.leave(),
             Beat::Took => self.take(),
             _ => {
-                self.unblock()?;
-                self.give(beat)
+                self.unblock();
+                self.give(beat);
             }
         }
     }
 
     // Tells the whole story.
-    pub fn run(&mut self) -> Result<(), NoMemory> {
-        self.tell(Event::Accepted {
-            peer: Peer(Text::copy_of(self.alloc, "192.0.2.1")?),
-        })?;
+    pub fn run(&mut self) {
+        self.tell_made(accepted(self.alloc));
         for beat in self.story.beats.as_slice() {
-            self.beat(*beat)?;
-            self.send()?;
+            self.beat(*beat);
+            self.send();
         }
-        Ok(())
     }
 }

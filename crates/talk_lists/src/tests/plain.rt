@@ -2,59 +2,15 @@
 use super::asks::{Answer, Ask, LIMIT, REPLY};
 use super::beats::Story;
 use super::kid::{By, Kid};
+use super::messages::{Messages, messages_of};
+use super::parts::Parts;
 use super::told::Told;
-use host_base::{Bytes, NoMemory};
 use host_trace::Event;
 use std::alloc::Global;
 
 const HIGH: usize = 262_144;
 
-// The messages of an output, each between angle brackets, and how many bytes they have.
-#[derive(Drop)]
-struct Messages {
-    text: Bytes,
-    len: usize,
-    // A line is too long. What stands behind is none.
-    long: bool,
-}
-
-impl Messages {
-    // A line is a message without one CR at its end.
-    fn add(&mut self, alloc: Global, line: &[u8]) -> Result<(), NoMemory> {
-        let line = line.strip_suffix(b"\r".as_slice()).unwrap_or(line);
-        let text = String::from_utf8_lossy(alloc, line)?;
-        self.text.push(b'<')?;
-        self.text.extend_from_slice(text.as_str().as_bytes())?;
-        self.text.push(b'>')?;
-        self.len = self.len.saturating_add(text.as_str().len());
-        Ok(())
-    }
-}
-
-// Those of its lines, and of what stands behind the last one where it has ended.
-fn messages_of(alloc: Global, output: &[u8], ended: bool) -> Result<Messages, NoMemory> {
-    let mut all = Messages {
-        text: Bytes::new(alloc),
-        len: 0,
-        long: false,
-    };
-    let mut line = Bytes::new(alloc);
-    for byte in output {
-        if *byte == b'\n' {
-            all.add(alloc, line.as_slice())?;
-            line = Bytes::new(alloc);
-        } else if line.len() == LIMIT {
-            all.long = true;
-            return Ok(all);
-        } else {
-            line.push(*byte)?;
-        }
-    }
-    if ended && !line.is_empty() {
-        all.add(alloc, line.as_slice())?;
-    }
-    Ok(all)
-}
+const NO_BYTES: &[u8] = &[];
 
 // The code of the close frame with which an event ends a talk (RFC 6455 7.4.1), unless it ends without one.
 fn code_of(event: &Event) -> Option<u64> {
@@ -82,7 +38,7 @@ pub struct Plain {
     base: usize,
     pub upgraded: bool,
     pub shut: bool,
-    lost: bool,
+    dropped: bool,
     pub stopped: bool,
     gone: bool,
     // Bytes that wait to be sent.
@@ -90,7 +46,7 @@ pub struct Plain {
     kids: u64,
     pub kid: Option<Kid>,
     // All that the talk heard of the output, and how much of its messages was said.
-    output: Bytes,
+    output: Parts,
     said: usize,
     counted: usize,
 }
@@ -106,13 +62,13 @@ impl Plain {
             base: 0,
             upgraded: false,
             shut: false,
-            lost: false,
+            dropped: false,
             stopped: false,
             gone: false,
             waits: 0,
             kids: 0,
             kid: None,
-            output: Bytes::new(alloc),
+            output: Parts::new(alloc),
             said: 0,
             counted: 0,
         }
@@ -132,7 +88,7 @@ impl Plain {
     }
 
     fn is_ended(&self) -> bool {
-        self.lost || self.stopped || self.gone
+        self.dropped || self.stopped || self.gone
     }
 
     // The request that is read, where it has come whole.
@@ -156,7 +112,7 @@ impl Plain {
                 self.asked = false;
             }
             Event::WsBad { .. } | Event::ClientGone { .. } => self.gone = true,
-            Event::NoRoom { .. } => self.lost = true,
+            Event::NoRoom { .. } => self.dropped = true,
             Event::Stop => self.stopped = true,
             Event::Wrote { n, .. } => {
                 let count = usize::try_from(*n).unwrap_or(0);
@@ -172,77 +128,91 @@ impl Plain {
     // ---- a talk
 
     // Says the messages that the event brings, ends the talk where it does, and feeds the line of a text.
-    fn talk(&mut self, event: &Event) -> Result<(), NoMemory> {
-        let mut long = false;
-        let mut line = Bytes::new(self.alloc);
+    fn talk(&mut self, event: &Event) {
+        let long = match event {
+            Event::ChildBytes { bytes, .. } => self.hear_output(bytes.as_slice()),
+            Event::ChildEof { .. } => self.say(true),
+            Event::WsText { bytes, .. } => bytes.len() > LIMIT,
+            _ => false,
+        };
+        self.end_talk(event, long);
         match event {
-            Event::ChildBytes { bytes, .. } => self.output.extend_from_slice(bytes.as_slice())?,
-            Event::WsText { bytes, .. } if bytes.len() > LIMIT => long = true,
-            Event::WsText { bytes, .. } => {
-                line.extend_from_slice(bytes.as_slice())?;
-                line.push(b'\n')?;
-            }
+            Event::WsText { bytes, .. } if !long => self.feed(bytes.as_slice()),
             _ => {}
         }
-        let ended = matches!(event, Event::ChildEof { .. });
-        if ended || matches!(event, Event::ChildBytes { .. }) {
-            long |= self.say(ended)?;
-        }
-        self.end_talk(event, long)?;
-        self.feed(line.as_slice())
+    }
+
+    // Whether a line is too long.
+    fn hear_output(&mut self, bytes: &[u8]) -> bool {
+        self.output.add(bytes);
+        self.say(false)
     }
 
     // Says what was not said; whether a line is too long.
-    fn say(&mut self, ended: bool) -> Result<bool, NoMemory> {
-        let all = messages_of(self.alloc, self.output.as_slice(), ended)?;
-        if let Some(new) = all.text.as_slice().get(self.said..) {
-            if !new.is_empty() {
-                self.told.note("Says", 0, new)?;
-            }
+    fn say(&mut self, ended: bool) -> bool {
+        let all = messages_of(self.alloc, self.output.as_slice(), ended);
+        if self.output.is_lost() || all.is_lost() {
+            self.told.lose();
+        }
+        self.say_rest(&all);
+        all.long
+    }
+
+    fn say_rest(&mut self, all: &Messages) {
+        let new = all.text.as_slice().get(self.said..).unwrap_or(NO_BYTES);
+        if !new.is_empty() {
+            self.told.note("Says", 0, new);
         }
         let more = all.len.saturating_sub(self.counted);
         self.waits = self.waits.saturating_add(more);
         self.counted = all.len;
         self.said = all.text.len();
-        Ok(all.long)
     }
 
-    fn end_talk(&mut self, event: &Event, long: bool) -> Result<(), NoMemory> {
+    fn end_talk(&mut self, event: &Event, long: bool) {
         if let Some(kid) = &mut self.kid {
             if long {
                 kid.decide(By::Other);
             }
         }
         if self.is_talking() {
-            return Ok(());
+            return;
         }
-        let none: &[u8] = &[];
-        match code_of(event) {
-            Some(code) => self.told.note("CloseWs", code, none),
-            None => Ok(()),
+        if let Some(code) = code_of(event) {
+            self.told.note("CloseWs", code, NO_BYTES);
         }
     }
 
-    fn feed(&mut self, line: &[u8]) -> Result<(), NoMemory> {
-        let Some(kid) = &mut self.kid else {
-            return Ok(());
-        };
-        if line.is_empty() || !kid.may_feed() {
-            return Ok(());
+    // A text is fed as a line.
+    fn feed(&mut self, text: &[u8]) {
+        match &mut self.kid {
+            Some(kid) if kid.may_feed() => {
+                kid.fed = kid.fed.saturating_add(text.len()).saturating_add(1);
+                let number = kid.number;
+                self.note_line(number, text);
+            }
+            _ => {}
         }
-        kid.fed = kid.fed.saturating_add(line.len());
-        let number = kid.number;
-        self.told.note("Feed", number, line)
+    }
+
+    fn note_line(&mut self, number: u64, text: &[u8]) {
+        let mut line = Parts::new(self.alloc);
+        line.add(text);
+        line.push("\n");
+        if line.is_lost() {
+            self.told.lose();
+        }
+        self.told.note("Feed", number, line.as_slice());
     }
 
     // ---- requests
 
-    fn write(&mut self, bytes: &[u8]) -> Result<(), NoMemory> {
+    fn write(&mut self, bytes: &[u8]) {
         self.waits = self.waits.saturating_add(bytes.len());
         self.told.note("Write", 0, bytes)
     }
 
-    fn start(&mut self, program: &[u8], talks: bool) -> Result<(), NoMemory> {
+    fn start(&mut self, program: &[u8], talks: bool) {
         let k = self.kids;
         self.kids = k.saturating_add(1);
         self.kid = Some(Kid::new(k, talks));
@@ -255,41 +225,55 @@ impl Plain {
         self.base = self.base.saturating_add(ask.bytes.len());
     }
 
-    fn open(&mut self, story: &Story, accept: &[u8], program: &[u8]) -> Result<(), NoMemory> {
-        self.write(accept)?;
+    fn open(&mut self, story: &Story, accept: &[u8], program: &[u8]) {
+        self.write(accept);
         self.upgraded = true;
         self.waits = 0;
         let rest = story
             .stream
             .as_slice()
             .get(self.base..self.got)
-            .unwrap_or(&[]);
-        self.told.note("Upgrade", 0, rest)?;
+            .unwrap_or(NO_BYTES);
+        self.told.note("Upgrade", 0, rest);
         self.start(program, true)
     }
 
-    // Answers a request that has come whole; false where there is none.
-    fn answer(&mut self, story: &Story) -> Result<bool, NoMemory> {
-        if self.kid.is_some() || self.is_ended() {
-            return Ok(false);
-        }
-        let Some(ask) = self.whole_ask(story) else {
-            return Ok(false);
-        };
+    fn answer_ask(&mut self, story: &Story, ask: Ask) {
         self.go_on(ask);
         match ask.answer {
-            Answer::Refused(reply) => self.write(reply)?,
-            Answer::Runs(program) => self.start(program, false)?,
-            Answer::Opens(accept, program) => self.open(story, accept, program)?,
+            Answer::Refused(reply) => self.write(reply),
+            Answer::Runs(program) => self.start(program, false),
+            Answer::Opens(accept, program) => self.open(story, accept, program),
         }
-        Ok(true)
+    }
+
+    // Answers a request that has come whole; false where there is none.
+    fn answer(&mut self, story: &Story) -> bool {
+        if self.kid.is_some() || self.is_ended() {
+            return false;
+        }
+        match self.whole_ask(story) {
+            Some(ask) => {
+                self.answer_ask(story, ask);
+                true
+            }
+            None => false,
+        }
+    }
+
+    fn answers(&mut self, story: &Story) {
+        for _ in 0..=story.asks.len() {
+            if !self.answer(story) {
+                return;
+            }
+        }
     }
 
     // The script's reply, at the end of its output; and where it is settled the next request is read.
-    fn run(&mut self, event: &Event) -> Result<(), NoMemory> {
+    fn run(&mut self, event: &Event) {
         match event {
             Event::ChildEof { .. } => self.write(REPLY),
-            _ => Ok(()),
+            _ => {}
         }
     }
 
@@ -304,39 +288,37 @@ impl Plain {
     // ---- a step
 
     // What is due for the child.
-    fn serve(&mut self) -> Result<(), NoMemory> {
+    fn serve(&mut self) {
         let room = self.has_room();
-        let none: &[u8] = &[];
         let Some(kid) = &mut self.kid else {
-            return Ok(());
+            return;
         };
         let k = kid.number;
         if kid.must_end_input() {
             kid.input_over = true;
-            self.told.note("EndInput", k, none)?;
+            self.told.note("EndInput", k, NO_BYTES);
         }
         if kid.must_kill() {
             kid.killed = true;
-            self.told.note("Kill", k, none)?;
+            self.told.note("Kill", k, NO_BYTES);
         }
         if kid.must_release() {
             kid.output_over = true;
-            self.told.note("Release", k, none)?;
+            self.told.note("Release", k, NO_BYTES);
         }
         if kid.must_ask(room || kid.closed) {
             kid.asked = true;
-            self.told.note("WantChild", k, none)?;
+            self.told.note("WantChild", k, NO_BYTES);
         }
-        Ok(())
     }
 
-    fn close(&mut self) -> Result<(), NoMemory> {
+    fn close(&mut self) {
         let over = self.upgraded && !self.is_talking();
         if self.shut || !over && !self.is_ended() {
-            return Ok(());
+            return;
         }
         self.shut = true;
-        let why: &[u8] = if self.lost {
+        let why: &[u8] = if self.dropped {
             b"NoMemory"
         } else if self.stopped {
             b"Stopped"
@@ -349,37 +331,32 @@ impl Plain {
     }
 
     // Asks the client for more of a request, or for a text once all before was taken.
-    fn want(&mut self, story: &Story) -> Result<(), NoMemory> {
+    fn want(&mut self, story: &Story) {
         let due = match &self.kid {
             Some(kid) => kid.talks && kid.started && kid.has_taken_all(),
             None => self.whole_ask(story).is_none(),
         };
         if !due || self.asked || self.shut || !self.has_room() {
-            return Ok(());
+            return;
         }
         self.asked = true;
-        let none: &[u8] = &[];
-        self.told.note("WantClient", 0, none)
+        self.told.note("WantClient", 0, NO_BYTES)
     }
 
     // One step: the event, and the acts that are due.
-    pub fn step(&mut self, story: &Story, event: &Event) -> Result<(), NoMemory> {
+    pub fn step(&mut self, story: &Story, event: &Event) {
         let talking = self.is_talking();
         self.hear(event);
         if talking {
-            self.talk(event)?;
+            self.talk(event);
         } else if !self.upgraded {
-            self.run(event)?;
+            self.run(event);
         }
-        self.serve()?;
+        self.serve();
         self.settle();
-        for _ in 0..=story.asks.len() {
-            if !self.answer(story)? {
-                break;
-            }
-        }
-        self.close()?;
-        self.want(story)?;
+        self.answers(story);
+        self.close();
+        self.want(story);
         self.told.mark()
     }
 }

@@ -31,6 +31,23 @@ fn secs_of(event: &Event, clock: Option<u64>) -> Option<u64> {
     }
 }
 
+// A step of a connection, of which nothing is said but that the next one may come.
+fn tell_event(
+    conn: &mut AnyConn<'_>,
+    event: Event,
+    now: Option<u64>,
+    children: &mut u64,
+    out: &mut Recorder,
+)
+    requires stamp { IsStamp now }
+    requires served { IsServed (site_of conn.old) }
+    requires talks { may_step conn.old }
+    ensures served { IsServed (site_of conn.new) }
+    ensures talks { may_step conn.new }
+{
+    conn.step(event, now, children, out);
+}
+
 // Tells the events to a connection.
 fn tell(conn: &mut AnyConn<'_>, events: Vec<Event>, out: &mut Recorder)
     requires served { IsServed (site_of conn.old) }
@@ -40,10 +57,13 @@ fn tell(conn: &mut AnyConn<'_>, events: Vec<Event>, out: &mut Recorder)
     let mut clock = None;
     for event in events {
         clock = secs_of(&event, clock);
-        conn.step(event, stamp_of(clock), &mut children, out);
+        tell_event(conn, event, stamp_of(clock), &mut children, out);
         out.mark();
     }
 }
+
+// Lets a value go.
+fn let_go<T: Drop>(_value: T) {}
 
 // What a connection of the site does at the events.
 fn play(alloc: Global, site: &Site, events: Vec<Event>) -> Recorder
@@ -52,55 +72,156 @@ fn play(alloc: Global, site: &Site, events: Vec<Event>) -> Recorder
     let mut conn = AnyConn::new(alloc, site, 0);
     let mut out = Recorder::new(alloc);
     tell(&mut conn, events, &mut out);
+    let_go(conn);
     out
+}
+
+// How many lines at the front of two texts are the same.
+fn lines_alike(own: &str, due: &str) -> usize {
+    let mut rest = due.split('\n');
+    let mut count = 0usize;
+    for line in own.split('\n') {
+        if rest.next() != Some(line) {
+            return count;
+        }
+        count = count.saturating_add(1);
+    }
+    count
+}
+
+fn line_at(text: &str, place: usize) -> Option<&str> {
+    text.split('\n').nth(place)
+}
+
+// From where two texts differ on.
+fn first_line_apart(alloc: Global, own: &str, due: &str) -> Result<String, NoMemory> {
+    let place = lines_alike(own, due);
+    match (line_at(own, place), line_at(due, place)) {
+        (Some(a), Some(b)) => Ok(format!(in alloc; "line {place}: {a}\ndue: {b}")?),
+        _ => Ok(format!(in alloc; "more or less than {place} lines")?),
+    }
+}
+
+fn text_of(alloc: Global, bytes: &[u8]) -> Result<String, NoMemory> {
+    Ok(String::from_utf8_lossy(alloc, bytes)?)
+}
+
+// Where two logs differ; nothing where they don't.
+fn log_fault(alloc: Global, own: &[u8], due: &[u8]) -> Result<String, NoMemory> {
+    if own == due {
+        return Ok(String::new(alloc));
+    }
+    let own = text_of(alloc, own)?;
+    let due = text_of(alloc, due)?;
+    first_line_apart(alloc, own.as_str(), due.as_str())
 }
 
 // Where it does otherwise than the plain program; nothing where it doesn't.
 fn judged(alloc: Global, due: &Told, out: &Recorder) -> Result<String, NoMemory> {
-    let own = &out.told;
+    if due.is_lost() || out.told.is_lost() {
+        return Err(NoMemory);
+    }
     if out.failed {
-        return Ok(format!(in alloc; "an act of nobody")?);
+        return text_of(alloc, b"an act of nobody".as_slice());
     }
-    if own.log.as_slice() == due.log.as_slice() {
-        return Ok(String::new(alloc));
-    }
-    let own = String::from_utf8_lossy(alloc, own.log.as_slice())?;
-    let due = String::from_utf8_lossy(alloc, due.log.as_slice())?;
-    let mut place = 0usize;
-    for (a, b) in own.as_str().split('\n').zip(due.as_str().split('\n')) {
-        if a != b {
-            return Ok(format!(in alloc; "line {place}: {a}\ndue: {b}")?);
-        }
-        place = place.saturating_add(1);
-    }
-    Ok(format!(in alloc; "more or less than {place} lines")?)
+    log_fault(alloc, out.told.log.as_slice(), due.log.as_slice())
 }
 
-// What the plain program does in one cut, and where the connection does otherwise.
-#[derive(Drop)]
-struct Played {
-    told: Told,
-    fault: String,
+fn events_fault(
+    alloc: Global,
+    site: &Site,
+    events: Vec<Event>,
+    due: &Told,
+) -> Result<String, NoMemory>
+    requires { IsServed site.now }
+{
+    let out = play(alloc, site, events);
+    judged(alloc, due, &out)
 }
 
-fn play_cut(
+fn course_of<'s>(alloc: Global, story: &'s Story, cut: Cut, seed: u64) -> Course<'s> {
+    let mut course = Course::new(alloc, story, cut, seed);
+    course.run();
+    course
+}
+
+// Where the connection does otherwise at these events, or the plain program otherwise than in one piece.
+fn cut_fault(
+    alloc: Global,
+    site: &Site,
+    events: Vec<Event>,
+    due: &Told,
+    whole: &Told,
+) -> Result<String, NoMemory>
+    requires { IsServed site.now }
+{
+    let fault = events_fault(alloc, site, events, due)?;
+    if whole.agrees(due) || !fault.as_str().is_empty() {
+        return Ok(fault);
+    }
+    text_of(alloc, b"it depends on its cut".as_slice())
+}
+
+// Where a story goes otherwise in another cut.
+fn other_fault(
+    alloc: Global,
+    site: &Site,
+    course: Course<'_>,
+    whole: &Told,
+) -> Result<String, NoMemory>
+    requires { IsServed site.now }
+{
+    let Course { events, plain, .. } = course;
+    let fault = cut_fault(alloc, site, events, &plain.told, whole);
+    let_go(plain);
+    fault
+}
+
+// Where a story goes otherwise in single bytes, or in pieces.
+fn others_fault(
     alloc: Global,
     site: &Site,
     story: &Story,
-    cut: Cut,
     seed: u64,
-) -> Result<Played, NoMemory>
+    whole: &Told,
+) -> Result<String, NoMemory>
     requires { IsServed site.now }
 {
-    let mut course = Course::new(alloc, story, cut, seed);
-    course.run()?;
+    let course = course_of(alloc, story, Cut::Single, seed);
+    let single = other_fault(alloc, site, course, whole)?;
+    if !single.as_str().is_empty() {
+        return Ok(single);
+    }
+    let course = course_of(alloc, story, Cut::Seeded, seed);
+    other_fault(alloc, site, course, whole)
+}
+
+// Where it goes otherwise in one piece, or in another cut.
+fn any_fault(
+    alloc: Global,
+    site: &Site,
+    story: &Story,
+    seed: u64,
+    events: Vec<Event>,
+    whole: &Told,
+) -> Result<String, NoMemory>
+    requires { IsServed site.now }
+{
+    let fault = events_fault(alloc, site, events, whole)?;
+    if !fault.as_str().is_empty() {
+        return Ok(fault);
+    }
+    others_fault(alloc, site, story, seed, whole)
+}
+
+fn story_fault(alloc: Global, site: &Site, story: &Story, seed: u64) -> Result<String, NoMemory>
+    requires { IsServed site.now }
+{
+    let course = course_of(alloc, story, Cut::Whole, seed);
     let Course { events, plain, .. } = course;
-    let out = play(alloc, site, events);
-    let fault = judged(alloc, &plain.told, &out)?;
-    Ok(Played {
-        told: plain.told,
-        fault,
-    })
+    let fault = any_fault(alloc, site, story, seed, events, &plain.told);
+    let_go(plain);
+    fault
 }
 
 // Where a story goes otherwise than it must; nothing where it doesn't.
@@ -108,18 +229,5 @@ pub fn fault_of(alloc: Global, site: &Site, seed: u64) -> Result<String, NoMemor
     requires { IsServed site.now }
 {
     let story = story_of(alloc, seed)?;
-    let whole = play_cut(alloc, site, &story, Cut::Whole, seed)?;
-    if !whole.fault.as_str().is_empty() {
-        return Ok(whole.fault);
-    }
-    for cut in [Cut::Single, Cut::Seeded] {
-        let other = play_cut(alloc, site, &story, cut, seed)?;
-        if !other.fault.as_str().is_empty() {
-            return Ok(other.fault);
-        }
-        if !whole.told.agrees(&other.told) {
-            return Ok(format!(in alloc; "it depends on its cut")?);
-        }
-    }
-    Ok(String::new(alloc))
+    story_fault(alloc, site, &story, seed)
 }

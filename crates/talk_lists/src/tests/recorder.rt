@@ -1,8 +1,9 @@
 // An outside that writes down what it is asked for, and tells no trace.
 ghost use Rattle.std.specs.Prelude.{None};
 
+use super::parts::Parts;
 use super::told::Told;
-use host_base::{Bytes, NoMemory, Texts};
+use host_base::Texts;
 use host_trace::{Act, Acted, Event, Outside, Why};
 use std::alloc::Global;
 
@@ -10,7 +11,7 @@ use std::alloc::Global;
 pub struct Recorder {
     alloc: Global,
     pub told: Told,
-    // No memory was found to write an act down, or it names another connection.
+    // An act names another connection.
     pub failed: bool,
 }
 
@@ -25,15 +26,15 @@ fn why_text(why: Why) -> &'static [u8] {
 }
 
 // Messages, each between angle brackets.
-fn messages_text(alloc: Global, texts: &Texts) -> Result<Bytes, NoMemory> {
-    let mut bytes = Bytes::new(alloc);
-    for text in texts.as_slice() {
-        bytes.push(b'<')?;
-        bytes.extend_from_slice(text.as_bytes())?;
-        bytes.push(b'>')?;
+fn push_messages(text: &mut Parts, messages: &Texts) {
+    for message in messages.as_slice() {
+        text.push("<");
+        text.add(message.as_bytes());
+        text.push(">");
     }
-    Ok(bytes)
 }
+
+const NO_BYTES: &[u8] = &[];
 
 impl Recorder {
     pub fn new(alloc: Global) -> Self {
@@ -46,31 +47,43 @@ impl Recorder {
 
     // A step ends.
     pub fn mark(&mut self) {
-        self.failed |= self.told.mark().is_err();
+        self.told.mark();
     }
 
-    fn note(&mut self, act: &Act) -> Result<(), NoMemory> {
-        let none: &[u8] = &[];
+    fn say(&mut self, texts: &Texts) {
+        let mut text = Parts::new(self.alloc);
+        push_messages(&mut text, texts);
+        if text.is_lost() {
+            self.told.lose();
+        }
+        self.told.note("Says", 0, text.as_slice());
+    }
+
+    fn note(&mut self, act: &Act) {
         match act {
-            Act::WantClient { c } => self.told.note("WantClient", *c, none),
+            Act::WantClient { c } => self.told.note("WantClient", *c, NO_BYTES),
             Act::Write { c, bytes } => self.told.note("Write", *c, bytes.as_slice()),
             Act::Upgrade { c, rest } => self.told.note("Upgrade", *c, rest.as_slice()),
-            Act::Says { c: 0, texts } => {
-                let text = messages_text(self.alloc, texts)?;
-                self.told.note("Says", 0, text.as_slice())
-            }
-            Act::CloseWs { c: 0, code } => self.told.note("CloseWs", u64::from(*code), none),
+            Act::Says { c: 0, texts } => self.say(texts),
+            Act::CloseWs { c: 0, code } => self.told.note("CloseWs", u64::from(*code), NO_BYTES),
             Act::Shut { c, why } => self.told.note("Shut", *c, why_text(*why)),
+            _ => self.note_child(act),
+        }
+    }
+
+    // An act on a child.
+    fn note_child(&mut self, act: &Act) {
+        match act {
             Act::Start { k, launch, .. } => {
                 self.told
                     .note("Start", *k, launch.program.as_str().as_bytes())
             }
             Act::Feed { k, bytes } => self.told.note("Feed", *k, bytes.as_slice()),
-            Act::EndInput { k } => self.told.note("EndInput", *k, none),
-            Act::WantChild { k } => self.told.note("WantChild", *k, none),
-            Act::Kill { k } => self.told.note("Kill", *k, none),
-            Act::Release { k } => self.told.note("Release", *k, none),
-            _ => Err(NoMemory),
+            Act::EndInput { k } => self.told.note("EndInput", *k, NO_BYTES),
+            Act::WantChild { k } => self.told.note("WantChild", *k, NO_BYTES),
+            Act::Kill { k } => self.told.note("Kill", *k, NO_BYTES),
+            Act::Release { k } => self.told.note("Release", *k, NO_BYTES),
+            _ => self.failed = true,
         }
     }
 }
@@ -89,7 +102,7 @@ impl Outside for Recorder {
     }
 
     fn act(&mut self, act: &Act) -> Acted {
-        self.failed |= self.note(act).is_err();
+        self.note(act);
         Acted::Done
     }
 }

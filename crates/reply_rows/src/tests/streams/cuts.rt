@@ -1,6 +1,7 @@
 // Outputs whole, in single bytes and cut at each place, with a tick at each place: what each call writes.
 use super::super::cells::{Cells, are_right};
-use super::{asked_of, is_ended, stamp_of};
+use super::super::values::{is_joined, joined};
+use super::{asked_of, end, has_begun, hear, is_ended, new_stream, tick};
 use host_base::{Bytes, NoMemory};
 use reply_stream::{Last, Stream};
 use std::alloc::Global;
@@ -108,21 +109,20 @@ struct Telling {
     begun: bool,
 }
 
-// Adds bytes of the body as they are written. There are at most 15 of them.
-fn push_body(text: &mut Vec<u8>, bytes: &[u8], body: Body) -> Result<(), NoMemory> {
+// Whether a text is a front and behind it bytes of the body as they are written. There are at most 15 of them.
+fn is_body_behind(text: &[u8], front: &[u8], bytes: &[u8], body: Body) -> bool {
     match body {
-        Chunks if !bytes.is_empty() => {
-            if let Some(digit) = b"0123456789abcdef".get(bytes.len()) {
-                text.push(*digit)?;
-            }
-            text.extend_from_slice(b"\r\n")?;
-            text.extend_from_slice(bytes)?;
-            text.extend_from_slice(b"\r\n")?;
-        }
-        Plain => text.extend_from_slice(bytes)?,
-        _ => (),
+        Chunks if !bytes.is_empty() => is_chunk_behind(text, front, bytes),
+        Plain => is_joined(text, &[front, bytes]),
+        _ => text == front,
     }
-    Ok(())
+}
+
+fn is_chunk_behind(text: &[u8], front: &[u8], bytes: &[u8]) -> bool {
+    let digits = b"0123456789abcdef".as_slice();
+    let digit = digits.get(bytes.len()..bytes.len().saturating_add(1));
+    let end = b"\r\n".as_slice();
+    is_joined(text, &[front, digit.unwrap_or(b""), end, bytes, end])
 }
 
 fn end_mark(body: Body) -> &'static [u8] {
@@ -138,56 +138,109 @@ fn body_part<'a>(row: &Row, output: &'a [u8], from: usize, to: usize) -> &'a [u8
 }
 
 impl Telling {
-    // Whether the next bytes of the output are answered as they must be.
-    fn hears(&mut self, alloc: Global, row: &Row, output: &[u8], to: usize) -> bool {
-        match self.hears_so(alloc, row, output, to) {
-            Ok(right) => right,
-            Err(_) => false,
+    // What is written where the next bytes of the output are told.
+    fn heard(&mut self, alloc: Global, row: &Row, piece: &[u8]) -> Result<Bytes, NoMemory> {
+        hear(alloc, &mut self.stream, piece, row.close(), row.dated())
+    }
+
+    fn ticked(&mut self, row: &Row) -> Result<Bytes, NoMemory> {
+        tick(&mut self.stream, row.close(), row.dated())
+    }
+
+    // Whether this is due where the bytes up to a place are heard.
+    fn is_due(&self, row: &Row, output: &[u8], to: usize, text: &[u8]) -> bool {
+        match (self.begun, row.body) {
+            (true, Some(body)) => {
+                is_body_behind(text, b"", body_part(row, output, self.heard, to), body)
+            }
+            _ => text.is_empty(),
         }
     }
 
-    fn hears_so(
+    // Whether the next bytes of the output are answered as they must be.
+    fn hears(
         &mut self,
         alloc: Global,
         row: &Row,
         output: &[u8],
         to: usize,
     ) -> Result<bool, NoMemory> {
-        let piece = Bytes::from_slice(alloc, output.get(self.heard..to).unwrap_or(b""))?;
-        let text = self.stream.hear(piece, row.close(), stamp_of(row.dated()))?;
-        let mut due = Vec::new(alloc);
-        if let (true, Some(body)) = (self.begun, row.body) {
-            push_body(&mut due, body_part(row, output, self.heard, to), body)?;
-        }
+        let text = self.heard(alloc, row, output.get(self.heard..to).unwrap_or(b""))?;
+        let right = self.is_due(row, output, to, text.as_slice());
         self.heard = to;
-        Ok(text.as_slice() == due.as_slice())
+        Ok(right)
     }
 
-    // Whether a tick is: it begins the reply once the header is whole and a byte was heard.
-    fn ticks(&mut self, alloc: Global, row: &Row, output: &[u8]) -> bool {
-        match self.ticks_so(alloc, row, output) {
-            Ok(right) => right,
-            Err(_) => false,
+    // A tick begins the reply once the header is whole and a byte was heard.
+    fn begins(&self, row: &Row) -> bool {
+        !self.begun && row.body.is_some() && self.heard >= row.header().max(1)
+    }
+
+    // Whether this is due at a tick.
+    fn is_due_at_tick(&self, row: &Row, output: &[u8], text: &[u8]) -> bool {
+        match row.body {
+            Some(body) if self.begins(row) => {
+                let part = body_part(row, output, 0, self.heard);
+                is_body_behind(text, row.cells.at(5), part, body)
+            }
+            _ => text.is_empty(),
         }
     }
 
-    fn ticks_so(&mut self, alloc: Global, row: &Row, output: &[u8]) -> Result<bool, NoMemory> {
-        let text = self.stream.tick(row.close(), stamp_of(row.dated()))?;
-        let mut due = Vec::new(alloc);
-        if let (false, Some(body)) = (self.begun, row.body) {
-            if self.heard >= row.header().max(1) {
-                due.extend_from_slice(row.cells.at(5))?;
-                push_body(&mut due, body_part(row, output, 0, self.heard), body)?;
-                self.begun = true;
+    // Whether a tick is answered as it must be.
+    fn ticks(&mut self, row: &Row, output: &[u8]) -> Result<bool, NoMemory> {
+        let text = self.ticked(row)?;
+        let right = self.is_due_at_tick(row, output, text.as_slice());
+        self.begun = self.begun || self.begins(row);
+        Ok(right && has_begun(&self.stream) == self.begun)
+    }
+
+    fn ticks_if(&mut self, now: bool, row: &Row, output: &[u8]) -> Result<bool, NoMemory> {
+        if now {
+            self.ticks(row, output)
+        } else {
+            Ok(true)
+        }
+    }
+
+    fn is_cut(
+        &mut self,
+        alloc: Global,
+        row: &Row,
+        output: &[u8],
+        at: usize,
+        tick: usize,
+    ) -> Result<bool, NoMemory> {
+        Ok(
+            self.ticks_if(tick == 1, row, output)?
+                && self.hears(alloc, row, output, at)?
+                && self.ticks_if(tick == 2, row, output)?
+                && self.hears(alloc, row, output, output.len())?
+                && self.ticks_if(tick == 3, row, output)?,
+        )
+    }
+
+    fn is_single(
+        &mut self,
+        alloc: Global,
+        row: &Row,
+        output: &[u8],
+        at: usize,
+        always: bool,
+    ) -> Result<bool, NoMemory> {
+        for place in 0..output.len() {
+            let ticked = self.ticks_if(always || place == at, row, output)?;
+            if !ticked || !self.hears(alloc, row, output, place.saturating_add(1))? {
+                return Ok(false);
             }
         }
-        Ok(text.as_slice() == due.as_slice() && self.stream.has_begun() == self.begun)
+        Ok(true)
     }
 
     // Whether the end is.
     fn ends(self, alloc: Global, row: &Row) -> Result<bool, NoMemory> {
         let begun = self.begun;
-        let last = self.stream.end(row.close(), stamp_of(row.dated()))?;
+        let last = end(self.stream, row.close(), row.dated())?;
         if begun {
             Ok(is_end_mark(&last, row))
         } else {
@@ -205,7 +258,7 @@ fn is_end_mark(last: &Last, row: &Row) -> bool {
 
 fn telling_of(alloc: Global, row: &Row) -> Telling {
     Telling {
-        stream: Stream::new(alloc, asked_of(row.cells)),
+        stream: new_stream(alloc, asked_of(row.cells)),
         heard: 0,
         begun: false,
     }
@@ -221,12 +274,7 @@ fn is_cut(
     tick: usize,
 ) -> Result<bool, NoMemory> {
     let mut telling = telling_of(alloc, row);
-    let before = tick != 1 || telling.ticks(alloc, row, output);
-    let first = telling.hears(alloc, row, output, at);
-    let between = tick != 2 || telling.ticks(alloc, row, output);
-    let second = telling.hears(alloc, row, output, output.len());
-    let after = tick != 3 || telling.ticks(alloc, row, output);
-    let right = before && first && between && second && after;
+    let right = telling.is_cut(alloc, row, output, at, tick)?;
     Ok(telling.ends(alloc, row)? && right)
 }
 
@@ -239,41 +287,33 @@ fn is_single(
     always: bool,
 ) -> Result<bool, NoMemory> {
     let mut telling = telling_of(alloc, row);
-    let mut right = true;
-    for place in 0..output.len() {
-        if always || place == at {
-            right = telling.ticks(alloc, row, output) && right;
-        }
-        right = telling.hears(alloc, row, output, place.saturating_add(1)) && right;
-    }
+    let right = telling.is_single(alloc, row, output, at, always)?;
     Ok(telling.ends(alloc, row)? && right)
+}
+
+fn is_answered_at(alloc: Global, row: &Row, output: &[u8], at: usize) -> Result<bool, NoMemory> {
+    for tick in 0..4 {
+        if !is_cut(alloc, row, output, at, tick)? {
+            return Ok(false);
+        }
+    }
+    is_single(alloc, row, output, at, false)
 }
 
 fn is_answered(alloc: Global, row: &Row, output: &[u8]) -> Result<bool, NoMemory> {
     for at in 0..output.len() + 1 {
-        for tick in 0..4 {
-            if !is_cut(alloc, row, output, at, tick)? {
-                return Ok(false);
-            }
-        }
-        if !is_single(alloc, row, output, at, false)? {
+        if !is_answered_at(alloc, row, output, at)? {
             return Ok(false);
         }
     }
     is_single(alloc, row, output, 0, true)
 }
 
-fn output_of(alloc: Global, row: &Cells) -> Result<Vec<u8>, NoMemory> {
-    let mut output = Vec::from_slice(alloc, row.at(3))?;
-    output.extend_from_slice(row.at(4))?;
-    Ok(output)
-}
-
 fn is_answered_however_cut(alloc: Global, row: &Row) -> Result<bool, NoMemory> {
     if row.body.is_none() && !row.cells.is(6, "-") {
         return Ok(false);
     }
-    let output = output_of(alloc, row.cells)?;
+    let output = joined(alloc, row.cells.at(3), row.cells.at(4))?;
     is_answered(alloc, row, output.as_slice())
 }
 

@@ -1,9 +1,10 @@
 // Outputs of 8,192 and 8,193 bytes, cut at each place, with a tick at each place: what each call writes.
 use super::super::cells::{Cells, are_right};
-use super::long::filled_at;
-use super::{GET, asked_of};
-use host_base::{Bytes, NoMemory};
-use reply_stream::{Asked, Last, Stream};
+use super::super::values::is_joined;
+use super::long::{ends, filled_at, push_filler};
+use super::{GET, asked_of, hear, new_stream, tick};
+use host_base::NoMemory;
+use reply_stream::{Asked, Stream};
 use std::alloc::Global;
 use std::test::Fail;
 
@@ -52,9 +53,7 @@ impl Texts {
 
 fn with_body(front: Vec<u8>, count: usize) -> Result<Vec<u8>, NoMemory> {
     let mut text = front;
-    for _ in 0..count {
-        text.push(b'a')?;
-    }
+    push_filler(&mut text, count)?;
     Ok(text)
 }
 
@@ -69,138 +68,165 @@ fn push_hex(text: &mut Vec<u8>, number: usize) -> Result<(), NoMemory> {
     Ok(())
 }
 
-// Adds bytes of the body as they are written.
-fn push_body(text: &mut Vec<u8>, asked: Asked, bytes: &[u8]) -> Result<(), NoMemory> {
-    let chunked = asked == GET && !bytes.is_empty();
-    if chunked {
-        push_hex(text, bytes.len())?;
-        text.extend_from_slice(b"\r\n")?;
+// Whether a text is a front and behind it bytes of the body as they are written.
+fn is_written(
+    alloc: Global,
+    text: &[u8],
+    front: &[u8],
+    asked: Asked,
+    bytes: &[u8],
+) -> Result<bool, NoMemory> {
+    if asked == GET && !bytes.is_empty() {
+        is_chunk(alloc, text, front, bytes)
+    } else {
+        Ok(is_joined(text, &[front, bytes]))
     }
-    text.extend_from_slice(bytes)?;
-    if chunked {
-        text.extend_from_slice(b"\r\n")?;
-    }
-    Ok(())
 }
 
-// A row that is told: how much of its output was heard, whether its reply has begun, and whether all was answered so.
+fn is_chunk(alloc: Global, text: &[u8], front: &[u8], bytes: &[u8]) -> Result<bool, NoMemory> {
+    let end = b"\r\n".as_slice();
+    let mut digits = Vec::new(alloc);
+    push_hex(&mut digits, bytes.len())?;
+    Ok(is_joined(text, &[front, digits.as_slice(), end, bytes, end]))
+}
+
+// A row that is told: how much of its output was heard, and whether its reply has begun.
 #[derive(Drop)]
 struct Telling {
     stream: Stream,
     heard: usize,
     begun: bool,
-    right: bool,
 }
 
 impl Telling {
     fn new(alloc: Global, texts: &Texts) -> Self {
         Telling {
-            stream: Stream::new(alloc, texts.asked),
+            stream: new_stream(alloc, texts.asked),
             heard: 0,
             begun: false,
-            right: true,
         }
     }
 
-    // Takes what was written where the reply begins with this call, or doesn't, and the output was heard from one place
-    // on.
-    fn takes(&mut self, alloc: Global, texts: &Texts, text: &[u8], begins: bool, from: usize) {
-        let mut due = Vec::new(alloc);
-        let mut made = true;
+    // Whether this is due where the reply begins with this call, or doesn't, and the output was heard from one place on.
+    fn is_due(
+        &self,
+        alloc: Global,
+        texts: &Texts,
+        text: &[u8],
+        begins: bool,
+        from: usize,
+    ) -> Result<bool, NoMemory> {
         if begins {
-            self.begun = true;
-            made = due.extend_from_slice(texts.begun.as_slice()).is_ok();
-        }
-        if self.begun {
+            let body = texts.part(texts.header, self.heard);
+            is_written(alloc, text, texts.begun.as_slice(), texts.asked, body)
+        } else if self.begun {
             let body = texts.part(from.max(texts.header), self.heard);
-            made = made && push_body(&mut due, texts.asked, body).is_ok();
+            is_written(alloc, text, b"", texts.asked, body)
+        } else {
+            Ok(text.is_empty())
         }
-        self.right = self.right && made && text == due.as_slice();
-    }
-
-    fn hear(&mut self, alloc: Global, bytes: &[u8]) -> Result<Bytes, NoMemory> {
-        let piece = Bytes::from_slice(alloc, bytes)?;
-        self.stream.hear(piece, false, None)
     }
 
     // The next bytes of the output: with the 8,193rd one the reply begins.
-    fn hears(&mut self, alloc: Global, texts: &Texts, to: usize) {
+    fn hears(&mut self, alloc: Global, texts: &Texts, to: usize) -> Result<bool, NoMemory> {
         let from = self.heard;
-        self.heard = to;
+        let text = hear(alloc, &mut self.stream, texts.part(from, to), false, false)?;
         let begins = !self.begun && to > 8192;
-        match self.hear(alloc, texts.part(from, to)) {
-            Ok(text) => {
-                let from = if begins { 0 } else { from };
-                self.takes(alloc, texts, text.as_slice(), begins, from);
-            }
-            Err(_) => self.right = false,
-        }
+        self.heard = to;
+        let right = self.is_due(alloc, texts, text.as_slice(), begins, from)?;
+        self.begun = self.begun || begins;
+        Ok(right)
     }
 
     // A tick: it begins the reply where its header is whole.
-    fn ticks(&mut self, alloc: Global, texts: &Texts) {
+    fn ticks(&mut self, alloc: Global, texts: &Texts) -> Result<bool, NoMemory> {
+        let text = tick(&mut self.stream, false, false)?;
         let begins = !self.begun && self.heard >= texts.header;
-        match self.stream.tick(false, None) {
-            Ok(text) => {
-                let from = if begins { 0 } else { self.heard };
-                self.takes(alloc, texts, text.as_slice(), begins, from);
-            }
-            Err(_) => self.right = false,
+        let right = self.is_due(alloc, texts, text.as_slice(), begins, self.heard)?;
+        self.begun = self.begun || begins;
+        Ok(right)
+    }
+
+    fn ticks_if(&mut self, now: bool, alloc: Global, texts: &Texts) -> Result<bool, NoMemory> {
+        if now {
+            self.ticks(alloc, texts)
+        } else {
+            Ok(true)
         }
     }
 
-    // Whether all was answered so, and the end is.
-    fn ends(self, texts: &Texts) -> bool {
-        let due: &[u8] = match (self.begun, texts.asked == GET) {
+    fn is_cut(
+        &mut self,
+        alloc: Global,
+        texts: &Texts,
+        at: usize,
+        ticks: bool,
+    ) -> Result<bool, NoMemory> {
+        Ok(
+            self.hears(alloc, texts, at)?
+                && self.ticks_if(ticks, alloc, texts)?
+                && self.hears(alloc, texts, texts.output.len())?,
+        )
+    }
+
+    fn is_single(&mut self, alloc: Global, texts: &Texts, ticks: bool) -> Result<bool, NoMemory> {
+        for at in 0..texts.output.len() {
+            let heard = self.hears(alloc, texts, at.saturating_add(1))?;
+            if !heard || !self.ticks_if(ticks, alloc, texts)? {
+                return Ok(false);
+            }
+        }
+        Ok(true)
+    }
+
+    // What is due at the end.
+    fn rest<'t>(&self, texts: &'t Texts) -> &'t [u8] {
+        match (self.begun, texts.asked == GET) {
             (true, true) => b"0\r\n\r\n",
             (true, false) => b"",
             (false, _) => texts.whole.as_slice(),
-        };
-        match self.stream.end(false, None) {
-            Ok(Last::Written(text)) => self.right && text.as_slice() == due,
-            Ok(Last::Hop(_)) => false,
-            Ok(Last::Bad(_)) => false,
-            Err(_) => false,
         }
+    }
+
+    // Whether the end is answered so.
+    fn ends(self, texts: &Texts) -> Result<bool, NoMemory> {
+        let due = self.rest(texts);
+        ends(self.stream, due)
     }
 }
 
 // Whether the output is answered so where it is cut at one place, with a tick between its parts or with none.
-fn is_cut(alloc: Global, texts: &Texts, at: usize, ticks: bool) -> bool {
+fn is_cut(alloc: Global, texts: &Texts, at: usize, ticks: bool) -> Result<bool, NoMemory> {
     let mut telling = Telling::new(alloc, texts);
-    telling.hears(alloc, texts, at);
-    if ticks {
-        telling.ticks(alloc, texts);
-    }
-    telling.hears(alloc, texts, texts.output.len());
-    telling.ends(texts)
+    let right = telling.is_cut(alloc, texts, at, ticks)?;
+    Ok(telling.ends(texts)? && right)
 }
 
 // Whether it is in single bytes, with a tick behind each one or with none.
-fn is_single(alloc: Global, texts: &Texts, ticks: bool) -> bool {
+fn is_single(alloc: Global, texts: &Texts, ticks: bool) -> Result<bool, NoMemory> {
     let mut telling = Telling::new(alloc, texts);
-    for at in 0..texts.output.len() {
-        telling.hears(alloc, texts, at.saturating_add(1));
-        if ticks {
-            telling.ticks(alloc, texts);
-        }
-    }
-    telling.ends(texts)
+    let right = telling.is_single(alloc, texts, ticks)?;
+    Ok(telling.ends(texts)? && right)
 }
 
-// Whether it is in single bytes, and cut at each place, with ticks and without one.
-fn is_answered(alloc: Global, texts: &Texts) -> bool {
+fn is_cut_at_each(alloc: Global, texts: &Texts, ticks: bool) -> Result<bool, NoMemory> {
     for at in 0..texts.output.len() + 1 {
-        if !is_cut(alloc, texts, at, true) || !is_cut(alloc, texts, at, false) {
-            return false;
+        if !is_cut(alloc, texts, at, ticks)? {
+            return Ok(false);
         }
     }
-    is_single(alloc, texts, false) && is_single(alloc, texts, true)
+    Ok(true)
+}
+
+// Whether it is in single bytes, and cut at each place, with ticks or without one.
+fn is_answered(alloc: Global, texts: &Texts, ticks: bool) -> Result<bool, NoMemory> {
+    Ok(is_cut_at_each(alloc, texts, ticks)? && is_single(alloc, texts, ticks)?)
 }
 
 fn is_edge(alloc: Global, row: &Cells) -> Result<bool, NoMemory> {
     let texts = Texts::new(alloc, row)?;
-    Ok(row.len() == 11 && is_answered(alloc, &texts))
+    let answered = is_answered(alloc, &texts, true)? && is_answered(alloc, &texts, false)?;
+    Ok(row.len() == 11 && answered)
 }
 
 #[test]

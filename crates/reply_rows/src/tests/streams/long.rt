@@ -1,7 +1,8 @@
 // Outputs about the size at which a reply begins without a tick, and a header that is about as long.
 use super::super::cells::{Cells, are_right};
-use super::{GET, asked_of, is_ended};
-use host_base::{Bytes, NoMemory};
+use super::super::values::joined;
+use super::{GET, asked_of, end, has_begun, hear, is_ended, new_stream};
+use host_base::NoMemory;
 use reply_stream::{Asked, Last, Stream};
 use std::alloc::Global;
 use std::test::Fail;
@@ -35,12 +36,18 @@ x\n\n | 9000 |  | bad | HeaderLine
 
 /// A text, so many `a` behind it, and a text.
 pub fn filled(alloc: Global, front: &[u8], count: usize, back: &[u8]) -> Result<Vec<u8>, NoMemory> {
-    let mut bytes = Vec::from_slice(alloc, front)?;
+    let mut bytes = joined(alloc, front, b"")?;
+    push_filler(&mut bytes, count)?;
+    bytes.extend_from_slice(back)?;
+    Ok(bytes)
+}
+
+/// Adds so many `a`.
+pub fn push_filler(bytes: &mut Vec<u8>, count: usize) -> Result<(), NoMemory> {
     for _ in 0..count {
         bytes.push(b'a')?;
     }
-    bytes.extend_from_slice(back)?;
-    Ok(bytes)
+    Ok(())
 }
 
 /// The text of the three cells from one on.
@@ -49,17 +56,29 @@ pub fn filled_at(alloc: Global, row: &Cells, place: usize) -> Result<Vec<u8>, No
     filled(alloc, row.at(place), count, row.at(place.saturating_add(2)))
 }
 
-fn hear(alloc: Global, stream: &mut Stream, piece: &[u8]) -> Result<Bytes, NoMemory> {
-    let piece = Bytes::from_slice(alloc, piece)?;
-    stream.hear(piece, false, None)
+// Adds what is written where a piece was told.
+fn push_heard(
+    alloc: Global,
+    stream: &mut Stream,
+    written: &mut Vec<u8>,
+    piece: &[u8],
+) -> Result<(), NoMemory> {
+    let text = hear(alloc, stream, piece, false, false)?;
+    written.extend_from_slice(text.as_slice())?;
+    Ok(())
 }
 
-// Adds what is written where a piece was told.
-fn push_heard(alloc: Global, stream: &mut Stream, written: &mut Vec<u8>, piece: &[u8]) -> bool {
-    match hear(alloc, stream, piece) {
-        Ok(text) => written.extend_from_slice(text.as_slice()).is_ok(),
-        Err(_) => false,
+fn push_all_heard(
+    alloc: Global,
+    stream: &mut Stream,
+    written: &mut Vec<u8>,
+    output: &[u8],
+    size: usize,
+) -> Result<(), NoMemory> {
+    for piece in output.chunks(size.max(1)) {
+        push_heard(alloc, stream, written, piece)?;
     }
+    Ok(())
 }
 
 // Tells an output in a piece of `first` bytes and then in pieces of `size` bytes: what is written is this.
@@ -69,14 +88,12 @@ fn is_written(
     output: &[u8],
     cut: (usize, usize),
     due: &[u8],
-) -> bool {
+) -> Result<bool, NoMemory> {
     let mut written = Vec::new(alloc);
     let (first, rest) = output.split_at(cut.0.min(output.len()));
-    let mut right = push_heard(alloc, stream, &mut written, first);
-    for piece in rest.chunks(cut.1.max(1)) {
-        right = right && push_heard(alloc, stream, &mut written, piece);
-    }
-    right && written.as_slice() == due
+    push_heard(alloc, stream, &mut written, first)?;
+    push_all_heard(alloc, stream, &mut written, rest, cut.1)?;
+    Ok(written.as_slice() == due)
 }
 
 // The texts of a row.
@@ -105,42 +122,61 @@ fn is_rest(last: &Last, due: &[u8]) -> bool {
     }
 }
 
-fn is_long_row(alloc: Global, texts: &Texts, first: usize, size: usize) -> bool {
-    let mut stream = Stream::new(alloc, texts.asked);
-    let before = texts.before.as_slice();
-    let written = is_written(
-        alloc,
-        &mut stream,
-        texts.output.as_slice(),
-        (first, size),
-        before,
-    );
-    let begun = stream.has_begun();
-    match stream.end(false, None) {
-        Ok(last) => written && begun == !before.is_empty() && is_rest(&last, texts.rest.as_slice()),
-        Err(_) => false,
+// Whether an output is written so before its end, and the reply has then begun where anything was.
+fn is_written_before(
+    alloc: Global,
+    stream: &mut Stream,
+    output: &[u8],
+    cut: (usize, usize),
+    before: &[u8],
+) -> Result<bool, NoMemory> {
+    let written = is_written(alloc, stream, output, cut, before)?;
+    Ok(written && has_begun(stream) == !before.is_empty())
+}
+
+/// Whether a stream ends with this.
+pub fn ends(stream: Stream, due: &[u8]) -> Result<bool, NoMemory> {
+    Ok(is_rest(&end(stream, false, false)?, due))
+}
+
+fn is_long_row(alloc: Global, texts: &Texts, first: usize, size: usize) -> Result<bool, NoMemory> {
+    let mut stream = new_stream(alloc, texts.asked);
+    let (output, before) = (texts.output.as_slice(), texts.before.as_slice());
+    let written = is_written_before(alloc, &mut stream, output, (first, size), before)?;
+    Ok(ends(stream, texts.rest.as_slice())? && written)
+}
+
+fn is_long_row_cut(alloc: Global, texts: &Texts) -> Result<bool, NoMemory> {
+    let len = texts.output.len();
+    for count in 0..len / 97 + 1 {
+        if !is_long_row(alloc, texts, count.saturating_mul(97), len)? {
+            return Ok(false);
+        }
     }
+    Ok(true)
+}
+
+fn is_long_row_cut_late(alloc: Global, texts: &Texts) -> Result<bool, NoMemory> {
+    for before in 0..4 {
+        if !is_long_row(alloc, texts, texts.output.len().saturating_sub(before), 1)? {
+            return Ok(false);
+        }
+    }
+    Ok(true)
 }
 
 // Whether it is written so in single bytes, and cut in two at every 97th place and at the last ones.
-fn is_long_row_however_cut(alloc: Global, texts: &Texts) -> bool {
-    let len = texts.output.len();
-    for count in 0..len / 97 + 1 {
-        if !is_long_row(alloc, texts, count.saturating_mul(97), len) {
-            return false;
-        }
-    }
-    for before in 0..4 {
-        if !is_long_row(alloc, texts, len.saturating_sub(before), 1) {
-            return false;
-        }
-    }
-    is_long_row(alloc, texts, 0, 1)
+fn is_long_row_however_cut(alloc: Global, texts: &Texts) -> Result<bool, NoMemory> {
+    Ok(
+        is_long_row_cut(alloc, texts)?
+            && is_long_row_cut_late(alloc, texts)?
+            && is_long_row(alloc, texts, 0, 1)?,
+    )
 }
 
 fn is_long(alloc: Global, row: &Cells) -> Result<bool, NoMemory> {
     let texts = texts_of(alloc, row)?;
-    Ok(row.len() == 10 && is_long_row_however_cut(alloc, &texts))
+    Ok(is_long_row_however_cut(alloc, &texts)? && row.len() == 10)
 }
 
 #[test]
@@ -155,20 +191,18 @@ fn is_unwritten_as(
     first: usize,
     size: usize,
 ) -> Result<bool, NoMemory> {
-    let mut stream = Stream::new(alloc, GET);
-    let written = is_written(alloc, &mut stream, output, (first, size), b"");
-    let begun = stream.has_begun();
-    let last = stream.end(false, None)?;
-    Ok(written && !begun && is_ended(alloc, &last, row, 3)?)
+    let mut stream = new_stream(alloc, GET);
+    let unwritten = is_written_before(alloc, &mut stream, output, (first, size), b"")?;
+    Ok(unwritten && is_ended(alloc, &end(stream, false, false)?, row, 3)?)
 }
 
 fn is_unwritten_however_cut(alloc: Global, output: &[u8], row: &Cells) -> Result<bool, NoMemory> {
-    Ok(
-        is_unwritten_as(alloc, output, row, 0, 1)?
-            && is_unwritten_as(alloc, output, row, 0, 8192)?
-            && is_unwritten_as(alloc, output, row, 0, 10_000)?
-            && is_unwritten_as(alloc, output, row, 8191, 1)?,
-    )
+    for (first, size) in [(0, 1), (0, 8192), (0, 10_000), (8191, 1)] {
+        if !is_unwritten_as(alloc, output, row, first, size)? {
+            return Ok(false);
+        }
+    }
+    Ok(true)
 }
 
 fn is_unwritten(alloc: Global, row: &Cells) -> Result<bool, NoMemory> {
@@ -182,19 +216,21 @@ fn long_outputs_of_which_nothing_is_written(rt: HostRuntime) -> Result<(), Fail>
 }
 
 // Tells a piece: this is written.
-fn is_answered(stream: &mut Stream, piece: Vec<u8>, close: bool, due: &[u8]) -> bool {
-    match stream.hear(Bytes::from_vec(piece), close, None) {
-        Ok(text) => text.as_slice() == due,
-        Err(_) => false,
-    }
+fn is_answered(
+    alloc: Global,
+    stream: &mut Stream,
+    piece: &[u8],
+    close: bool,
+    due: &[u8],
+) -> Result<bool, NoMemory> {
+    Ok(hear(alloc, stream, piece, close, false)?.as_slice() == due)
 }
 
-fn is_long_document(alloc: Global, output: Vec<u8>, begun: &[u8]) -> Result<bool, NoMemory> {
-    let more = filled(alloc, b"b", 0, b"")?;
-    let mut stream = Stream::new(alloc, GET);
-    let heard = is_answered(&mut stream, output, true, begun)
-        && is_answered(&mut stream, more, false, b"1\r\nb\r\n");
-    Ok(heard && is_rest(&stream.end(false, None)?, b"0\r\n\r\n"))
+fn is_long_document(alloc: Global, output: &[u8], begun: &[u8]) -> Result<bool, NoMemory> {
+    let mut stream = new_stream(alloc, GET);
+    let heard = is_answered(alloc, &mut stream, output, true, begun)?
+        && is_answered(alloc, &mut stream, b"b", false, b"1\r\nb\r\n")?;
+    Ok(heard && ends(stream, b"0\r\n\r\n")?)
 }
 
 fn is_a_long_document(alloc: Global) -> Result<bool, NoMemory> {
@@ -205,7 +241,7 @@ fn is_a_long_document(alloc: Global) -> Result<bool, NoMemory> {
         b"\r\n",
     )?;
     let output = filled(alloc, b"Content-Type: text/plain\n\n", 9000, b"")?;
-    is_long_document(alloc, output, begun.as_slice())
+    is_long_document(alloc, output.as_slice(), begun.as_slice())
 }
 
 // A long document in one piece, one byte more, and the end.

@@ -1,11 +1,12 @@
 // Long lines of a body, long pipelines and a long head.
 use super::super::cells::{Cells, are_right};
 use super::reading::{
-    Expected, LIMITS, is_answered_however_cut, is_refused, next_whole, push_times,
+    Expected, feeds, is_answered_however_cut, is_refused, new_reader, next_whole, push_times, rest,
 };
 use host_base::{Cause, NoMemory};
 use request_reader::ReqReader;
 use std::alloc::Global;
+use std::process::Abort;
 use std::test::Fail;
 
 // Requests whose body has a long line: what stands before it, how many bytes of it follow, what stands behind them, the cause of the
@@ -65,20 +66,33 @@ fn count_now(reader: &mut ReqReader, most: usize) -> usize {
 }
 
 fn gives_one(reader: &mut ReqReader) -> bool {
-    next_whole(reader).is_some()
+    match next_whole(reader) {
+        Some(_) => true,
+        None => false,
+    }
 }
 
 // How many of the requests of a text are given, fed in pieces of `size` bytes; none where bytes are left.
 fn count_given(alloc: Global, text: &[u8], size: usize) -> usize {
-    let mut reader = ReqReader::new(alloc, &LIMITS);
+    let mut reader = new_reader(alloc);
+    count_all(&mut reader, text, size)
+}
+
+fn count_all(reader: &mut ReqReader, text: &[u8], size: usize) -> usize {
     let mut count: usize = 0;
     for piece in text.chunks(size.max(1)) {
-        if reader.feed(piece).is_err() {
+        if !feeds(reader, piece) {
             return 0;
         }
-        count = count.saturating_add(count_now(&mut reader, text.len()));
+        count = count.saturating_add(count_now(reader, text.len()));
     }
-    if reader.rest().is_empty() { count } else { 0 }
+    if rest(reader).is_empty() { count } else { 0 }
+}
+
+fn are_given<R: Abort>(rt: &R, alloc: Global, text: &[u8]) {
+    for size in [1, 27, 65_536, text.len()] {
+        assert!(rt; count_given(alloc, text, size) == 5_000, "{size}");
+    }
 }
 
 #[test]
@@ -86,25 +100,18 @@ fn a_long_pipeline(rt: HostRuntime) {
     let mut text = Vec::new(rt.alloc());
     let request: &[u8] = b"GET /a HTTP/1.0\r\nContent-Length: 2\r\n\r\nab";
     assert!(&rt; push_times(&mut text, request, 5_000));
-    for size in [1, 27, 65_536, text.len()] {
-        assert!(&rt;
-            count_given(rt.alloc(), text.as_slice(), size) == 5_000,
-            "{size}"
-        );
-    }
+    are_given(&rt, rt.alloc(), text.as_slice());
+}
+
+fn is_long_head_refused(alloc: Global) -> bool {
+    let mut text = Vec::new(alloc);
+    let pushed = push_times(&mut text, b"HEAD / HTTP/1.1\r\n", 61);
+    let left = Some((true, 1037));
+    pushed && is_refused(alloc, text.as_slice(), Cause::HeadTooLong, false, left)
 }
 
 // A head is not told to be HEAD's before it is whole.
 #[test]
 fn a_long_head(rt: HostRuntime) {
-    let mut text = Vec::new(rt.alloc());
-    assert!(&rt; push_times(&mut text, b"HEAD / HTTP/1.1\r\n", 61));
-    let right = is_refused(
-        rt.alloc(),
-        text.as_slice(),
-        Cause::HeadTooLong,
-        false,
-        Some((true, 1037)),
-    );
-    assert!(&rt; right);
+    assert!(&rt; is_long_head_refused(rt.alloc()));
 }

@@ -1,17 +1,16 @@
 // Which requests end the connection, and what a local redirect keeps of one.
 use super::super::cells::{Cells, are_right};
-use super::reading::{LIMITS, next_whole};
+use super::reading::{fed, next_whole};
 use host_base::{Bytes, Field, NoMemory, Request, Target};
-use request_reader::{ReqReader, persists, redirected};
+use request_reader::{persists, redirected};
 use std::alloc::Global;
 use std::test::Fail;
 
 // The one request of a text.
 fn request_of(alloc: Global, text: &[u8]) -> Option<Request> {
-    let mut reader = ReqReader::new(alloc, &LIMITS);
-    match reader.feed(text) {
-        Ok(()) => next_whole(&mut reader),
-        Err(_) => None,
+    match fed(alloc, text) {
+        Some(mut reader) => next_whole(&mut reader),
+        None => None,
     }
 }
 
@@ -29,11 +28,15 @@ yes | GET / HTTP/1.1\r\nHost: a\r\nConnection: ,,\r\n\r\n
 yes | GET / HTTP/1.1\r\nHost: a\r\nClose: close\r\n\r\n
 ";
 
-fn is_lasting(alloc: Global, row: &Cells) -> Result<bool, NoMemory> {
-    Ok(match request_of(alloc, row.at(1)) {
-        Some(request) => persists(&request) == row.is_yes(0),
+fn lasts(request: &Option<Request>, due: bool) -> bool {
+    match request {
+        Some(request) => persists(request) == due,
         None => false,
-    })
+    }
+}
+
+fn is_lasting(alloc: Global, row: &Cells) -> Result<bool, NoMemory> {
+    Ok(lasts(&request_of(alloc, row.at(1)), row.is_yes(0)))
 }
 
 #[test]
@@ -48,9 +51,13 @@ head / HTTP/1.1\r\nHost: a\r\n\r\n | GET | Host
 POST / HTTP/1.1\r\ncontent-LENGTH: 2\r\nContent-Type: a\r\nExpect: 100-continue\r\nCookie: c\r\nUpgrade: w\r\nConnection: close\r\nsec-websocket-Key: k\r\nSec-WebSocket-: k\r\nSec-WebSocket: kept\r\nContent: kept\r\nHost: a\r\n\r\nab | GET | Cookie | Sec-WebSocket | Content | Host
 ";
 
+fn is_named(field: &Field, name: &[u8]) -> bool {
+    field.name.as_slice() == name
+}
+
 fn has_names(fields: &[Field], names: &[Vec<u8>]) -> bool {
     for (field, name) in fields.iter().zip(names.iter()) {
-        if field.name.as_slice() != name.as_slice() {
+        if !is_named(field, name.as_slice()) {
             return false;
         }
     }
@@ -77,18 +84,19 @@ fn redirect_of(alloc: Global, request: &Request) -> Result<Request, NoMemory> {
     redirected(alloc, request, new_target(alloc)?)
 }
 
-fn is_redirected(alloc: Global, text: &[u8], method: &[u8], names: &[Vec<u8>]) -> bool {
-    let Some(request) = request_of(alloc, text) else {
-        return false;
-    };
-    match redirect_of(alloc, &request) {
-        Ok(made) => is_as(&made, &request, method) && has_names(made.fields.as_slice(), names),
-        Err(_) => false,
-    }
+fn is_kept(made: &Request, request: &Request, row: &Cells) -> bool {
+    is_as(made, request, row.at(1)) && has_names(made.fields.as_slice(), row.from(2))
+}
+
+fn is_redirected(alloc: Global, request: &Request, row: &Cells) -> Result<bool, NoMemory> {
+    Ok(is_kept(&redirect_of(alloc, request)?, request, row))
 }
 
 fn is_redirect(alloc: Global, row: &Cells) -> Result<bool, NoMemory> {
-    Ok(is_redirected(alloc, row.at(0), row.at(1), row.from(2)))
+    match request_of(alloc, row.at(0)) {
+        Some(request) => is_redirected(alloc, &request, row),
+        None => Ok(false),
+    }
 }
 
 #[test]

@@ -56,6 +56,11 @@ impl<'t> Expected<'t> {
     }
 }
 
+// Whether so many bytes are the end of a text.
+fn is_end(text: &[u8], rest: &[u8], len: usize) -> bool {
+    rest.len() == len && text.ends_with(rest)
+}
+
 fn is_request(request: &Request, path: &[u8], body: &[u8]) -> bool {
     request.target.path.as_slice() == path && request.body.as_slice() == body
 }
@@ -68,6 +73,30 @@ pub fn push_times(text: &mut Vec<u8>, part: &[u8], times: usize) -> bool {
         }
     }
     true
+}
+
+// Feeds a piece.
+pub fn feeds(reader: &mut ReqReader, piece: &[u8]) -> bool {
+    reader.feed(piece).is_ok()
+}
+
+// A reader that is fed a piece; none without memory.
+pub fn fed(alloc: Global, piece: &[u8]) -> Option<ReqReader> {
+    let mut reader = new_reader(alloc);
+    if feeds(&mut reader, piece) {
+        Some(reader)
+    } else {
+        None
+    }
+}
+
+pub fn new_reader(alloc: Global) -> ReqReader {
+    ReqReader::new(alloc, &LIMITS)
+}
+
+// What is fed and not taken.
+pub fn rest(reader: &ReqReader) -> &[u8] {
+    reader.rest()
 }
 
 // The whole request that a reader gives.
@@ -88,6 +117,15 @@ struct Reading {
 }
 
 impl Reading {
+    fn new(alloc: Global) -> Self {
+        Reading {
+            reader: new_reader(alloc),
+            given: 0,
+            right: true,
+            fault: None,
+        }
+    }
+
     // Takes an answer, and says whether another one may follow.
     fn takes(&mut self, step: ReqStep, expected: Expected) -> bool {
         match step {
@@ -125,18 +163,21 @@ impl Reading {
     }
 
     fn feed(&mut self, piece: &[u8], expected: Expected) {
-        if self.reader.feed(piece).is_err() {
-            self.right = false;
-        }
+        self.right = feeds(&mut self.reader, piece) && self.right;
         self.look(expected);
+    }
+
+    fn feed_all(&mut self, pieces: &[u8], size: usize, expected: Expected) {
+        for piece in pieces.chunks(size.max(1)) {
+            self.feed(piece, expected);
+        }
     }
 
     // What is left is the end of the text.
     fn is_left(&self, text: &[u8], expected: Expected) -> bool {
-        let rest = self.reader.rest();
         let begun = self.reader.begun();
         match expected.left {
-            Some((due, len)) => begun == due && text.ends_with(rest) && rest.len() == len,
+            Some((due, len)) => begun == due && is_end(text, rest(&self.reader), len),
             None => begun,
         }
     }
@@ -149,18 +190,11 @@ impl Reading {
 
 // Whether the text in pieces of `first` bytes and then of `size` bytes has the answers that are due.
 fn is_answered(alloc: Global, first: usize, size: usize, text: &[u8], expected: Expected) -> bool {
-    let mut reading = Reading {
-        reader: ReqReader::new(alloc, &LIMITS),
-        given: 0,
-        right: true,
-        fault: None,
-    };
+    let mut reading = Reading::new(alloc);
     let (first, rest) = text.split_at(first.min(text.len()));
     reading.look(expected);
     reading.feed(first, expected);
-    for piece in rest.chunks(size.max(1)) {
-        reading.feed(piece, expected);
-    }
+    reading.feed_all(rest, size, expected);
     reading.is_right(text, expected)
 }
 

@@ -1,6 +1,6 @@
 // What is waited for, and what is served and handed out before its end.
 use super::super::cells::{Cells, are_right};
-use super::reading::{LIMITS, next_whole};
+use super::reading::{feeds, new_reader, next_whole, rest};
 use host_base::{Bytes, NoMemory, Request};
 use request_reader::{ReqReader, ReqStep};
 use std::alloc::Global;
@@ -27,43 +27,58 @@ POST / HTTP/1.1\r\nHost: a\r\nExpect: 100-continue\r\nTransfer-Encoding: chunked
 // Feeds a text in pieces of `first` bytes and then of `size` bytes, and looks behind each but the last.
 fn is_fed(reader: &mut ReqReader, text: &[u8], first: usize, size: usize) -> bool {
     let (first, rest) = text.split_at(first.min(text.len()));
-    let mut right = reader.feed(first).is_ok();
+    let mut right = feeds(reader, first);
     for piece in rest.chunks(size.max(1)) {
-        right = right && reader.early().is_ok() && reader.feed(piece).is_ok();
+        right = right && is_looked_behind(reader) && feeds(reader, piece);
     }
     right
 }
 
-fn has_body(request: Option<Request>, body: Option<&[u8]>) -> bool {
-    match (request, body) {
-        (Some(request), Some(body)) => request.body.as_slice() == body,
-        (Some(_), None) => false,
-        (None, body) => body.is_none(),
+fn is_looked_behind(reader: &mut ReqReader) -> bool {
+    early(reader).is_ok()
+}
+
+fn early(reader: &mut ReqReader) -> Result<Option<Request>, NoMemory> {
+    reader.early()
+}
+
+fn body_of(request: &Option<Request>) -> Option<&[u8]> {
+    match request {
+        Some(request) => Some(request.body.as_slice()),
+        None => None,
     }
+}
+
+fn has_body(request: &Option<Request>, body: Option<&[u8]>) -> bool {
+    body_of(request) == body
+}
+
+fn is_body_early(reader: &mut ReqReader, body: Option<&[u8]>) -> Result<bool, NoMemory> {
+    Ok(has_body(&early(reader)?, body))
+}
+
+fn takes_body(reader: &mut ReqReader, body: &[u8]) -> bool {
+    reader.take_body().as_slice() == body
 }
 
 // What `early` gives has the body that is due, which is then handed out.
 fn is_early(reader: &mut ReqReader, body: Option<&[u8]>) -> bool {
-    let given = match reader.early() {
-        Ok(request) => has_body(request, body),
-        Err(_) => false,
-    };
-    given && reader.take_body().as_slice() == body.unwrap_or(b"")
+    is_body_early(reader, body).unwrap_or(false) && takes_body(reader, body.unwrap_or(b""))
 }
 
-fn is_more(step: ReqStep, due: bool) -> bool {
+fn is_more(step: &Result<ReqStep, NoMemory>, due: bool) -> bool {
     match step {
-        ReqStep::More { continue_due } => continue_due == due,
-        ReqStep::Whole(_) => false,
-        ReqStep::Bad { .. } => false,
+        Ok(ReqStep::More { continue_due }) => *continue_due == due,
+        _ => false,
     }
+}
+
+fn step(reader: &mut ReqReader) -> Result<ReqStep, NoMemory> {
+    reader.step()
 }
 
 fn is_waiting(reader: &mut ReqReader, due: bool) -> bool {
-    match reader.step() {
-        Ok(step) => is_more(step, due),
-        Err(_) => false,
-    }
+    is_more(&step(reader), due)
 }
 
 fn is_unended(
@@ -74,7 +89,7 @@ fn is_unended(
     due: bool,
     body: Option<&[u8]>,
 ) -> bool {
-    let mut reader = ReqReader::new(alloc, &LIMITS);
+    let mut reader = new_reader(alloc);
     let fed = is_fed(&mut reader, text, first, size);
     fed && is_early(&mut reader, body) && is_waiting(&mut reader, due)
 }
@@ -103,8 +118,7 @@ const STREAMED: &[u8] =
 
 // Adds the part of the body that is handed out.
 fn adds_part(reader: &mut ReqReader, body: &mut Bytes) -> bool {
-    let part = reader.take_body();
-    body.extend_from_slice(part.as_slice()).is_ok()
+    adds(body, Some(reader.take_body().as_slice()))
 }
 
 // Adds what has come of the body.
@@ -117,32 +131,43 @@ fn takes(reader: &mut ReqReader, body: &mut Bytes) -> bool {
 }
 
 fn is_served_early(reader: &mut ReqReader) -> Result<bool, NoMemory> {
-    Ok(reader.early()?.is_some())
+    Ok(body_of(&early(reader)?).is_some())
+}
+
+fn adds(body: &mut Bytes, part: Option<&[u8]>) -> bool {
+    match part {
+        Some(part) => body.extend_from_slice(part).is_ok(),
+        None => false,
+    }
 }
 
 // Adds what the request has at its end.
 fn ends(reader: &mut ReqReader, body: &mut Bytes) -> bool {
-    match next_whole(reader) {
-        Some(request) => body.extend_from_slice(request.body.as_slice()).is_ok(),
-        None => false,
+    adds(body, body_of(&next_whole(reader)))
+}
+
+// Adds what is handed out of pieces of so many bytes, behind each second piece, and what the request has at its end.
+fn streams(reader: &mut ReqReader, body: &mut Bytes, size: usize) -> bool {
+    let mut now = false;
+    for piece in STREAMED.chunks(size.max(1)) {
+        if !feeds(reader, piece) || now && !takes(reader, body) {
+            return false;
+        }
+        now = !now;
     }
+    ends(reader, body)
+}
+
+fn is_whole(reader: &ReqReader, body: &Bytes) -> bool {
+    body.as_slice() == b"abcdefghijklmnopqrstuvwxyz".as_slice() && rest(reader) == b"GET".as_slice()
 }
 
 // Whether the parts that `take_body` hands out of pieces of so many bytes, behind each second piece, and the rest are the
 // body.
 fn is_streamed(alloc: Global, size: usize) -> bool {
-    let mut reader = ReqReader::new(alloc, &LIMITS);
+    let mut reader = new_reader(alloc);
     let mut body = Bytes::new(alloc);
-    let mut now = false;
-    for piece in STREAMED.chunks(size.max(1)) {
-        if reader.feed(piece).is_err() || now && !takes(&mut reader, &mut body) {
-            return false;
-        }
-        now = !now;
-    }
-    ends(&mut reader, &mut body)
-        && body.as_slice() == b"abcdefghijklmnopqrstuvwxyz".as_slice()
-        && reader.rest() == b"GET".as_slice()
+    streams(&mut reader, &mut body, size) && is_whole(&reader, &body)
 }
 
 #[test]
