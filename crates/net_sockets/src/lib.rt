@@ -8,8 +8,6 @@ mod poll;
 mod ports;
 mod share;
 mod socket;
-#[cfg(test)]
-mod tests;
 
 pub use listener::Listener;
 pub use network::{NetFault, Network};

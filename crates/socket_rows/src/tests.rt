@@ -1,5 +1,5 @@
-use super::{NetFault, NetPorts, Network, TcpSocket};
 use loop_bell::Bell;
+use net_sockets::{NetFault, NetPorts, Network, TcpSocket};
 use socket_set::{Arrival, Ports, Ready, Received, Sent, Socket};
 use std::alloc::Global;
 use std::io::{Read, Write};
