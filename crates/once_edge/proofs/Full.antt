@@ -1,5 +1,5 @@
 -- No book of children is ever full.
-use Rattle.std.proofs.Common.{◌≡◌, ◌∙◌, inl, inr, ◌++◌, ◌<◌, arith, All, ℕ, true, false, List, [], ◌∷◌, refl, sym, ap, subst, codes, Result, Ok, Err, IfOk}
+use Rattle.std.proofs.Common.{◌≡◌, ◌∙◌, inl, inr, ◌<◌, arith, All, ℕ, true, false, List, [], ◌∷◌, refl, sym, ap, subst, codes, Result, Ok, Err, IfOk}
 use Rattle.std.proofs.lemmas.List.Elements.{All-cons}
 use Rattle.host_base.specs.declared.launch.Peer.{Peer}
 use Rattle.host_trace.specs.declared.items.Event.{Event}
@@ -67,10 +67,20 @@ module _ {K : Type 0} where
   fresh_of socket who children (Ok s) e h = record { who = who; at = e; socket = socket; children = children; is_new = h }
   fresh_of socket who children (Err x) e h = tt
 
+  pub limit_of : {E : Type 0} (socket : SocketTells) (who : Peer) (children : ℕ) (r : Result (OnceState K) E)
+      → IfOk r (λ s. IsNew socket who children s) → IfOk r (λ s. s.limit ≡ children)
+  limit_of socket who children (Ok s) h = h.limit_is
+  limit_of socket who children (Err x) h = tt
+
+  pub room_of : {E : Type 0} (cap connections : ℕ) (r : Result (OnceState K) E) → cap ≡ connections
+      → IfOk r (λ s. s.room ≡ cap) → IfOk r (λ s. s.room ≡ connections)
+  room_of cap connections (Ok s) e h = h ∙ e
+  room_of cap connections (Err x) e h = tt
+
 none_below : (k : ℕ) → k < 0 → ⊥
 none_below k h = omega arith
 
--- what holds of the one item holds of all
-pub all_only : {X : Type 0} (P : X → Type 0) (xs zs : List X) (x : X) → zs ≡ xs ++ x ∷ [] → xs ≡ [] → P x → All P zs
-all_only P xs zs x e none p =
-    subst (λ w. All P w) (sym (e ∙ ap (λ w. w ++ x ∷ []) none)) (All-cons P x [] p (λ k d h. absurd (none_below k h)))
+-- what holds of the one item of a list holds of all
+pub all_only : {V X E : Type 0} (items : V → List X) (P : X → Type 0) (x : X) (r : Result V E) → P x → IfOk r (λ v. items v ≡ x ∷ []) → IfOk r (λ v. All P (items v))
+all_only items P x (Ok v) p e = subst (λ w. All P w) (sym e) (All-cons P x [] p (λ k d h. absurd (none_below k h)))
+all_only items P x (Err f) p e = tt

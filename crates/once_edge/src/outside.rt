@@ -111,6 +111,7 @@ impl<
         ensures new { IfOk result (IsNew (socket_tells socket) peer limit) }
         ensures room { IfOk result (λ o. o.room ≡ children.cap) }
     {
+        let buffer = vec![in alloc; 0u8; SMALL]?;
         Ok(OnceOutside {
             rt,
             alloc,
@@ -124,7 +125,7 @@ impl<
             unstarted: None,
             cut: false,
             stopped: false,
-            buffer: vec![in alloc; 0u8; SMALL]?,
+            buffer,
             limit,
             faults: 0,
         })
@@ -307,7 +308,6 @@ impl<
         self.hear_end()
     }
 
-    #[tactic(auto, using(crate::proofs::Quiet::child_quiet, crate::proofs::Quiet::child_counts, crate::proofs::Quiet::child_said, crate::proofs::Quiet::counted_child))]
     fn hear_child(&mut self) -> Option<Event>
         ensures some { IfSome result (λ event. OfChild S.Kid.tells event self.old self.new × Counted event self.old self.new) }
         ensures none { IsNone result → IsQuiet S.Kid.tells self.old self.new × Counts self.old self.new }
@@ -338,7 +338,6 @@ impl<
         }
     }
 
-    #[tactic(auto, using(crate::proofs::Quiet::client_quiet, crate::proofs::Quiet::client_counts, crate::proofs::Quiet::client_said, crate::proofs::Quiet::counted_client))]
     fn hear_client(&mut self) -> Option<Event>
         requires { self.old.client.shut ≡ false }
         ensures some { IfSome result (λ event. OfClient S.Kid.tells event self.old self.new × Counted event self.old self.new) }
@@ -380,7 +379,6 @@ impl<
     }
 
     // Sends what waits for a client that was shut, unless it failed. Where that can't be done, it is counted.
-    #[tactic(auto, using(crate::proofs::Quiet::left_quiet, crate::proofs::Quiet::left_counts, crate::proofs::Quiet::client_quiet, crate::proofs::Quiet::client_counts, crate::proofs::Quiet::quiet_self, crate::proofs::Quiet::counts_self))]
     fn send_rest(&mut self)
         requires { self.old.client.shut ≡ true }
         ensures quiet { IsQuiet S.Kid.tells self.old self.new }
@@ -390,9 +388,10 @@ impl<
         if self.is_sent() {
             return;
         }
-        if self.leave() {
-            self.cut_off();
+        if !self.leave() {
+            return;
         }
+        self.cut_off();
     }
 
     // One step of a client that was shut, and whether it is over with it.

@@ -1,13 +1,17 @@
 // The world of one connection.
-ghost use Rattle.std.specs.Prelude.{◌≡◌, IfOk, codes};
+ghost use Rattle.std.specs.Prelude.{◌≡◌, [], ◌∷◌, IfOk, false, codes};
+ghost use Rattle.pipe_pump.specs.Rings.{IsRingOf, is_finished};
+ghost use Rattle.pump_pool.specs.Pumps.{ring_of};
+ghost use Rattle.once_edge.specs.Once.{IsFresh};
 
 use super::{OnceOutside, StdioSocket};
-use child_edge::{ChildSet, SpawnFault};
+use child_edge::{ChildSet, SpawnFault, Spawner};
 use crossbeam_utils::sync::Parker;
-use host_base::{NoMemory, Peer, Sink, Site, Text};
+use host_base::{Limits, NoMemory, Peer, Sink, Site, Text};
 use host_trace::{Act, Acted, EnterFault, Event, Mode, Outside, World};
 use loop_bell::Bell;
-use pipe_pump::rings;
+use pipe_pump::{PipeIn, Tap, rings};
+use pump_pool::OutPump;
 use std::alloc::Global;
 use std::io::Stdin;
 use std::process::{Processes, SystemProcess};
@@ -113,6 +117,136 @@ fn peer(alloc: Global) -> Result<Peer, NoMemory>
     Ok(Peer(Text::copy_of(alloc, "127.0.0.1")?))
 }
 
+// Why the world isn't entered where a pump isn't started.
+fn fault_of(fault: SpawnFault) -> EnterFault {
+    match fault {
+        SpawnFault::Failed => EnterFault::Failed,
+        SpawnFault::NoMemory => EnterFault::NoMemory,
+    }
+}
+
+// The outside whose client is at this socket and whose children are of this spawner.
+fn join<R: Wait + Clock + Copy + Drop, S: Spawner + Drop, P: PipeIn + Drop, K: Sink + Drop>(
+    rt: R,
+    alloc: Global,
+    sleeper: Parker,
+    spawner: S,
+    socket: StdioSocket<P, K>,
+    limits: &Limits,
+) -> Result<OnceOutside<R, S, P, K>, NoMemory>
+    ensures limit { IfOk result (λ o. o.limit ≡ limits.now.children) }
+    ensures room { IfOk result (λ o. o.room ≡ limits.now.connections) }
+    ensures fresh { IfOk result IsFresh }
+{
+    let children = ChildSet::new(alloc, spawner, limits.connections)?;
+    OnceOutside::new(
+        rt,
+        alloc,
+        sleeper,
+        peer(alloc)?,
+        socket,
+        children,
+        limits.children,
+    )
+}
+
+fn joined<R: Wait + Clock + Copy + Drop, S: Spawner + Drop, P: PipeIn + Drop, K: Sink + Drop>(
+    rt: R,
+    alloc: Global,
+    sleeper: Parker,
+    spawner: S,
+    socket: StdioSocket<P, K>,
+    limits: &Limits,
+) -> Result<OnceOutside<R, S, P, K>, EnterFault>
+    ensures limit { IfOk result (λ o. o.limit ≡ limits.now.children) }
+    ensures room { IfOk result (λ o. o.room ≡ limits.now.connections) }
+    ensures fresh { IfOk result IsFresh }
+{
+    match join(rt, alloc, sleeper, spawner, socket, limits) {
+        Ok(outside) => Ok(outside),
+        Err(NoMemory) => Err(EnterFault::NoMemory),
+    }
+}
+
+// What sleeps, and the spawner whose pumps wake it.
+fn woken<
+    R: Processes<Started = SystemProcess> + Wait + Clock + Copy + Drop + 'static,
+    T: StartThread + Drop,
+>(rt: R, alloc: Global, starter: T) -> Result<(Parker, StdSpawner<R, T>), NoMemory> {
+    let sleeper = Parker::new(alloc)?;
+    let spawner = spawner(rt, alloc, &sleeper, starter)?;
+    Ok((sleeper, spawner))
+}
+
+fn spawner<
+    R: Processes<Started = SystemProcess> + Wait + Clock + Copy + Drop + 'static,
+    T: StartThread + Drop,
+>(rt: R, alloc: Global, sleeper: &Parker, starter: T) -> Result<StdSpawner<R, T>, NoMemory> {
+    StdSpawner::new(rt, alloc, Bell::at(sleeper)?, starter, IDLE)
+}
+
+// A pump of the client's bytes, and the end of its ring from which they are taken.
+fn heard<
+    R: Processes<Started = SystemProcess> + Wait + Clock + Copy + Drop + 'static,
+    T: StartThread + Drop,
+>(
+    alloc: Global,
+    spawner: &mut StdSpawner<R, T>,
+    input: Stdin,
+) -> Result<(Tap, OutPump<StandardInput>), SpawnFault>
+    ensures pair { IfOk result (λ r. IsRingOf (ring_of r.1) r.0) }
+    ensures open { IfOk result (λ r. is_finished r.0 ≡ false) }
+{
+    let Ok((ring, tap)) = rings(alloc, RING) else {
+        return Err(SpawnFault::NoMemory);
+    };
+    let pump = spawner.read_input(input, ring)?;
+    Ok((tap, pump))
+}
+
+// The outside of these parts.
+fn outside<
+    R: Processes<Started = SystemProcess> + Wait + Clock + Copy + Drop + 'static,
+    T: StartThread + Drop,
+    K: Sink + Drop,
+>(
+    rt: R,
+    alloc: Global,
+    parts: Parts<T, K>,
+    limits: &Limits,
+) -> Result<RealOutside<R, T, K>, EnterFault>
+    ensures limit { IfOk result (λ o. o.limit ≡ limits.now.children) }
+    ensures room { IfOk result (λ o. o.room ≡ limits.now.connections) }
+    ensures fresh { IfOk result IsFresh }
+{
+    let Parts {
+        starter,
+        input,
+        output,
+    } = parts;
+    let Ok((sleeper, mut spawner)) = woken(rt, alloc, starter) else {
+        return Err(EnterFault::NoMemory);
+    };
+    match heard(alloc, &mut spawner, input) {
+        Ok((tap, pump)) => {
+            let socket = StdioSocket::new(tap, pump, output);
+            joined(rt, alloc, sleeper, spawner, socket, limits)
+        }
+        Err(fault) => Err(fault_of(fault)),
+    }
+}
+
+// A list of one item.
+fn only<I: Drop>(alloc: Global, item: I) -> Result<Vec<I>, EnterFault>
+    ensures { IfOk result (λ items. items.items ≡ item ∷ []) }
+{
+    let mut items = Vec::new(alloc);
+    match items.push(item) {
+        Ok(()) => Ok(items),
+        Err(_) => Err(EnterFault::NoMemory),
+    }
+}
+
 impl<
     R: Processes<Started = SystemProcess> + Wait + Clock + Copy + Drop + 'static,
     T: StartThread + Drop,
@@ -121,66 +255,6 @@ impl<
     ghost use Rattle.std.specs.Prelude.{◌≡◌, ◌≤◌, ◌+◌, IfOk, OnOk, OnErr, All, vec_len};
     ghost use Rattle.host_base.specs.Outsides.{Rose};
     ghost use Rattle.once_edge.specs.Once.{IsFresh};
-
-    fn spawner(&self, sleeper: &Parker, starter: T) -> Result<StdSpawner<R, T>, NoMemory> {
-        StdSpawner::new(self.rt, self.alloc, Bell::at(sleeper)?, starter, IDLE)
-    }
-
-    // The outside whose client is this one.
-    fn join(
-        &self,
-        sleeper: Parker,
-        spawner: StdSpawner<R, T>,
-        socket: StdioSocket<StandardInput, K>,
-        site: &Site,
-    ) -> Result<RealOutside<R, T, K>, NoMemory>
-        ensures limit { IfOk result (λ o. o.limit ≡ site.now.limits.children) }
-        ensures room { IfOk result (λ o. o.room ≡ site.now.limits.connections) }
-        ensures fresh { IfOk result IsFresh }
-    {
-        let children = ChildSet::new(self.alloc, spawner, site.limits.connections)?;
-        OnceOutside::new(
-            self.rt,
-            self.alloc,
-            sleeper,
-            peer(self.alloc)?,
-            socket,
-            children,
-            site.limits.children,
-        )
-    }
-
-    // The outside of these parts.
-    fn outside(&self, parts: Parts<T, K>, site: &Site) -> Result<RealOutside<R, T, K>, EnterFault>
-        ensures limit { IfOk result (λ o. o.limit ≡ site.now.limits.children) }
-        ensures room { IfOk result (λ o. o.room ≡ site.now.limits.connections) }
-        ensures fresh { IfOk result IsFresh }
-    {
-        let Parts {
-            starter,
-            input,
-            output,
-        } = parts;
-        let Ok(sleeper) = Parker::new(self.alloc) else {
-            return Err(EnterFault::NoMemory);
-        };
-        let Ok(spawner) = self.spawner(&sleeper, starter) else {
-            return Err(EnterFault::NoMemory);
-        };
-        let Ok((ring, tap)) = rings(self.alloc, RING) else {
-            return Err(EnterFault::NoMemory);
-        };
-        let mut spawner = spawner;
-        let pump = match spawner.read_input(input, ring) {
-            Ok(pump) => pump,
-            Err(SpawnFault::Failed) => return Err(EnterFault::Failed),
-            Err(SpawnFault::NoMemory) => return Err(EnterFault::NoMemory),
-        };
-        match self.join(sleeper, spawner, StdioSocket::new(tap, pump, output), site) {
-            Ok(outside) => Ok(outside),
-            Err(_) => Err(EnterFault::NoMemory),
-        }
-    }
 
     // Gives out the one outside.
     fn begin(&mut self, site: &Site) -> Result<Vec<RealOutside<R, T, K>>, EnterFault>
@@ -193,12 +267,8 @@ impl<
         let Some(parts) = self.parts.take() else {
             return Err(EnterFault::Failed);
         };
-        let outside = self.outside(parts, site)?;
-        let mut outs = Vec::new(self.alloc);
-        match outs.push(outside) {
-            Ok(()) => Ok(outs),
-            Err(_) => Err(EnterFault::NoMemory),
-        }
+        let outside = outside(self.rt, self.alloc, parts, &site.limits)?;
+        only(self.alloc, outside)
     }
 
     /// Gives out the one outside, once.

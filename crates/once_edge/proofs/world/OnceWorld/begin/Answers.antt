@@ -3,13 +3,11 @@ use Rattle.once_edge.specs.Once.{IsFresh}
 use Rattle.once_edge.proofs.Full.{all_only}
 use Rattle.once_edge.proofs.world.OnceWorld.begin.Goals as goal
 
-pub returns-in-Ok-clause-limit : goal.returns-in-Ok-clause-limit
-returns-in-Ok-clause-limit g c =
-    all_only (λ o. o.limit ≡ c.args.site.now.limits.children) _ _ _ c.in-Ok.ensures.items c.new-outs.ensures.items c.in_ok-outside.ensures.limit
+pub returns-clause-limit : goal.returns-clause-limit
+returns-clause-limit g c = all_only (λ v. v.items) (λ o. o.limit ≡ c.args.site.now.limits.children) _ c.only.result c.in_ok-outside.ensures.limit c.only.ensures
 
-pub returns-in-Ok-clause-room : goal.returns-in-Ok-clause-room
-returns-in-Ok-clause-room g c =
-    all_only (λ o. o.room ≡ c.args.site.now.limits.connections) _ _ _ c.in-Ok.ensures.items c.new-outs.ensures.items c.in_ok-outside.ensures.room
+pub returns-clause-room : goal.returns-clause-room
+returns-clause-room g c = all_only (λ v. v.items) (λ o. o.room ≡ c.args.site.now.limits.connections) _ c.only.result c.in_ok-outside.ensures.room c.only.ensures
 
-pub returns-in-Ok-clause-fresh : goal.returns-in-Ok-clause-fresh
-returns-in-Ok-clause-fresh g c = all_only IsFresh _ _ _ c.in-Ok.ensures.items c.new-outs.ensures.items c.in_ok-outside.ensures.fresh
+pub returns-clause-fresh : goal.returns-clause-fresh
+returns-clause-fresh g c = all_only (λ v. v.items) IsFresh _ c.only.result c.in_ok-outside.ensures.fresh c.only.ensures
