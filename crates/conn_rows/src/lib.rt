@@ -1,4 +1,5 @@
-//! Worked rows of one connection, act for act, over an outside that records. There is no code beside the tests.
+//! Worked rows and seeded lists of one connection, of a WebSocket's talk and of the run of a child, over outsides that record.
+//! There is no code beside the tests.
 #![tactic(auto)]
 
 #[cfg(test)]

@@ -2,30 +2,23 @@
 ghost use Rattle.std.specs.Prelude.{None};
 
 use super::parts::Parts;
-use host_base::{Bytes, Launch, Texts};
+use super::told::Told;
+use host_base::{Launch, Texts};
 use host_trace::{Act, Acted, Event, Outside, Why};
 use std::alloc::Global;
 
 #[derive(Drop)]
 pub struct Recorder {
-    pub log: Parts,
-    // All bytes written.
-    pub wrote: Bytes,
-    // All bytes fed.
-    pub fed: Bytes,
-    // All messages said, one a line.
-    pub said: Parts,
-    // What children are started with: program, folder, arguments and variables, one a line.
-    pub launched: Parts,
+    pub told: Told,
     // Acts that carry something, so far.
     pub carried: u32,
     // The one of them that finds no room.
-    pub refused: Option<u32>,
-    // No memory was found for what was written or fed.
+    refused: Option<u32>,
+    // An act names another connection.
     pub failed: bool,
 }
 
-pub fn why_text(why: Why) -> &'static str {
+fn why_text(why: Why) -> &'static str {
     match why {
         Why::Done => "Done",
         Why::Gone => "Gone",
@@ -37,13 +30,13 @@ pub fn why_text(why: Why) -> &'static str {
     }
 }
 
-fn push_args(text: &mut Parts, launch: &Launch) {
+// The program, its folder, its arguments and its environment, one a line.
+fn push_launch(text: &mut Parts, launch: &Launch) {
+    text.push_line(launch.program.as_str());
+    text.push_line(launch.dir.as_str());
     for arg in launch.args.as_slice() {
         text.push_line(arg.as_str());
     }
-}
-
-fn push_variables(text: &mut Parts, launch: &Launch) {
     for pair in launch.env.as_slice() {
         text.push(pair.name.as_str());
         text.push("=");
@@ -51,38 +44,22 @@ fn push_variables(text: &mut Parts, launch: &Launch) {
     }
 }
 
-fn push_launch(text: &mut Parts, launch: &Launch) {
-    text.push_line(launch.program.as_str());
-    text.push_line(launch.dir.as_str());
-    push_args(text, launch);
-    push_variables(text, launch);
+// A message: in what is done between angle brackets behind a blank, and in what is said on a line.
+fn push_message(told: &mut Told, message: &str) {
+    told.log.push(" <");
+    told.log.push(message);
+    told.log.push(">");
+    told.said.push_line(message);
 }
 
 impl Recorder {
     pub fn new(alloc: Global, refused: Option<u32>) -> Self {
         Recorder {
-            log: Parts::new(alloc),
-            wrote: Bytes::new(alloc),
-            fed: Bytes::new(alloc),
-            said: Parts::new(alloc),
-            launched: Parts::new(alloc),
+            told: Told::new(alloc),
             carried: 0,
             refused,
             failed: false,
         }
-    }
-
-    // An act and its number.
-    fn numbered(&mut self, act: &str, k: u64) {
-        self.log.push(act);
-        self.log.push(" ");
-        self.log.push_number(u128::from(k));
-        self.log.push("\n");
-    }
-
-    // A beat ends.
-    pub fn mark(&mut self) {
-        self.log.push("--\n");
     }
 
     fn refuses(&mut self) -> bool {
@@ -91,17 +68,35 @@ impl Recorder {
         self.refused == Some(at)
     }
 
+    fn start(&mut self, k: u64, j: u128, hop: u32, launch: &Launch) {
+        push_launch(&mut self.told.launched, launch);
+        let j = u64::try_from(j).unwrap_or(u64::MAX);
+        self.told
+            .start(k, j, u64::from(hop), launch.program.as_str());
+    }
+
+    fn says(&mut self, texts: &Texts) {
+        self.told.log.push("Says");
+        for text in texts.as_slice() {
+            push_message(&mut self.told, text.as_str());
+        }
+        self.told.log.push("\n");
+    }
+
     fn note(&mut self, act: &Act) {
         match act {
-            Act::WantClient { .. } => self.log.push_line("WantClient"),
-            Act::Write { bytes, .. } => self.write(bytes.as_slice()),
-            Act::Shut { why, .. } => self.shut(why_text(*why)),
+            Act::WantClient { c: 0 } => self.told.ask_client(),
+            Act::Write { c: 0, bytes } => self.told.write(bytes.as_slice()),
+            Act::Upgrade { c: 0, rest } => self.told.upgrade(rest.as_slice()),
+            Act::Says { c: 0, texts } => self.says(texts),
+            Act::CloseWs { c: 0, code } => self.told.act("CloseWs", u64::from(*code)),
+            Act::Shut { c: 0, why } => self.told.shut(why_text(*why)),
             Act::Start {
                 k,
+                c: 0,
                 j,
                 hop,
                 launch,
-                ..
             } => self.start(*k, *j, *hop, launch),
             _ => self.note_child(act),
         }
@@ -110,77 +105,13 @@ impl Recorder {
     // An act on a child.
     fn note_child(&mut self, act: &Act) {
         match act {
-            Act::Feed { k, bytes } => self.feed(*k, bytes.as_slice()),
-            Act::EndInput { k } => self.numbered("EndInput", *k),
-            Act::WantChild { k } => self.numbered("WantChild", *k),
-            Act::Kill { k } => self.numbered("Kill", *k),
-            Act::Release { k } => self.numbered("Release", *k),
-            _ => self.note_talk(act),
+            Act::Feed { k, bytes } => self.told.feed(*k, bytes.as_slice()),
+            Act::EndInput { k } => self.told.act("EndInput", *k),
+            Act::WantChild { k } => self.told.ask_child(*k),
+            Act::Kill { k } => self.told.act("Kill", *k),
+            Act::Release { k } => self.told.act("Release", *k),
+            _ => self.failed = true,
         }
-    }
-
-    fn write(&mut self, bytes: &[u8]) {
-        self.failed |= self.wrote.extend_from_slice(bytes).is_err();
-        self.log.push("Write ");
-        self.log.push_bytes(bytes);
-        self.log.push("\n");
-    }
-
-    fn shut(&mut self, why: &str) {
-        self.log.push("Shut ");
-        self.log.push_line(why);
-    }
-
-    fn start(&mut self, k: u64, j: u128, hop: u32, launch: &Launch) {
-        push_launch(&mut self.launched, launch);
-        self.log.push("Start ");
-        self.log.push_number(u128::from(k));
-        self.log.push(" ");
-        self.log.push_number(j);
-        self.log.push(" ");
-        self.log.push_number(u128::from(hop));
-        self.log.push(" ");
-        self.log.push_line(launch.program.as_str());
-    }
-
-    fn feed(&mut self, k: u64, bytes: &[u8]) {
-        self.failed |= self.fed.extend_from_slice(bytes).is_err();
-        self.log.push("Feed ");
-        self.log.push_number(u128::from(k));
-        self.log.push(" ");
-        self.log.push_number(bytes.len() as u128);
-        self.log.push("\n");
-    }
-
-    // An act of a WebSocket.
-    fn note_talk(&mut self, act: &Act) {
-        match act {
-            Act::Upgrade { rest, .. } => self.upgrade(rest.as_slice()),
-            Act::Says { texts, .. } => self.say(texts),
-            Act::CloseWs { code, .. } => self.numbered("CloseWs", u64::from(*code)),
-            _ => {}
-        }
-    }
-
-    fn upgrade(&mut self, rest: &[u8]) {
-        self.log.push("Upgrade <");
-        self.log.push_bytes(rest);
-        self.log.push_line(">");
-    }
-
-    fn say_text(&mut self, text: &str) {
-        self.said.push_line(text);
-        self.log.push(" <");
-        self.log.push(text);
-        self.log.push(">");
-    }
-
-    fn say(&mut self, texts: &Texts) {
-        self.log.push("Says");
-        for text in texts.as_slice() {
-            self.say_text(text.as_str());
-        }
-        self.log.push("\n");
     }
 }
 
@@ -207,7 +138,7 @@ impl Outside for Recorder {
                 | Act::Says { .. }
         );
         if carries && self.refuses() {
-            self.log.push_line("no room");
+            self.told.log.push("no room\n");
             return Acted::NoRoom;
         }
         self.note(act);

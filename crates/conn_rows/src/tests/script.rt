@@ -1,205 +1,399 @@
 // Tables of rows as text: `== ` and a name begin a row, and a line `NAME = TEXT` before the first one gives a text its name, by which
 // it stands elsewhere behind `$`. \n, \r, \t, \0 and \xHH are bytes, as in Rust; a line that begins with `//` is a comment.
-use super::play::Heard;
+// The beats of a row are lines: an event stands at the margin, by its name, a number and what it brings, and the acts that
+// follow stand below it, four blanks further in.
+use super::events::{accepted, child_bytes, client_bytes, message};
+use super::parts::Parts;
 use host_base::NoMemory;
+use host_trace::Event;
 use std::alloc::Global;
+
+// ---- words
+
+pub fn is(text: &str, other: &str) -> bool {
+    text == other
+}
+
+// A word, and what stands behind the blank that follows it.
+pub fn cut(text: &str) -> (&str, &str) {
+    text.split_once(' ').unwrap_or((text, ""))
+}
+
+// A line, and what stands behind it.
+pub fn first_line(text: &str) -> (&str, &str) {
+    text.split_once('\n').unwrap_or((text, ""))
+}
+
+// What stands behind a front; nothing where it isn't there.
+pub fn behind<'t>(text: &'t str, front: &str) -> Option<&'t str> {
+    text.strip_prefix(front)
+}
+
+pub fn starts(text: &str, front: &str) -> bool {
+    text.starts_with(front)
+}
+
+pub fn number_of(text: &str) -> u64 {
+    text.parse::<u64>().unwrap_or(0)
+}
+
+fn small_of(number: u64) -> u32 {
+    u32::try_from(number).unwrap_or(0)
+}
 
 // ---- bytes
 
-// The value of a digit of base 16; 255 for another byte.
+static DIGITS: [u8; 16] = *b"0123456789abcdef";
+
+// The value of a digit of base 16; 16 for another byte.
 fn digit(byte: u8) -> u8 {
+    let mut value = 0u8;
+    for other in DIGITS.as_slice() {
+        if *other == byte {
+            return value;
+        }
+        value = value.wrapping_add(1);
+    }
+    value
+}
+
+// What is read of an escape.
+#[derive(Clone, Copy)]
+enum Escape {
+    None,
+    // Its backslash.
+    Begun,
+    // .. and its x.
+    Hex,
+    // .. and its first digit.
+    High(u8),
+}
+
+// The byte of an escape of one letter.
+fn letter(byte: u8) -> u8 {
     match byte {
-        b'0'..=b'9' => byte - b'0',
-        b'a'..=b'f' => byte - b'a' + 10,
-        _ => 255,
+        b'n' => b'\n',
+        b'r' => b'\r',
+        b't' => b'\t',
+        b'0' => b'\0',
+        _ => byte,
     }
 }
 
-// The byte of an escape whose part behind the backslash begins a text, and the rest of the text. What is no escape stays
-// as it is.
-fn escaped(part: &[u8]) -> (u8, &[u8]) {
-    match part {
-        [b'n', rest @ ..] => (b'\n', rest),
-        [b'r', rest @ ..] => (b'\r', rest),
-        [b't', rest @ ..] => (b'\t', rest),
-        [b'0', rest @ ..] => (b'\0', rest),
-        [b'x', high, low, rest @ ..] => {
-            let byte = digit(*high).wrapping_mul(16).wrapping_add(digit(*low));
-            (byte, rest)
-        }
-        _ => (b'\\', part),
+// Reads a byte of a text.
+fn unescape(bytes: &mut Parts, escape: Escape, byte: u8) -> Escape {
+    match escape {
+        Escape::None if byte == b'\\' => return Escape::Begun,
+        Escape::None => bytes.add_byte(byte),
+        Escape::Begun if byte == b'x' => return Escape::Hex,
+        Escape::Begun => bytes.add_byte(letter(byte)),
+        Escape::Hex => return Escape::High(digit(byte)),
+        Escape::High(high) => bytes.add_byte(high.wrapping_mul(16).wrapping_add(digit(byte))),
+    }
+    Escape::None
+}
+
+fn unescape_all(bytes: &mut Parts, text: &str) {
+    let mut escape = Escape::None;
+    for byte in text.as_bytes() {
+        escape = unescape(bytes, escape, *byte);
     }
 }
-
-fn push_escaped(bytes: &mut Vec<u8>, part: &[u8]) -> Result<(), NoMemory> {
-    let (byte, rest) = escaped(part);
-    bytes.push(byte)?;
-    bytes.extend_from_slice(rest)?;
-    Ok(())
-}
-
-fn push_unescaped(bytes: &mut Vec<u8>, text: &str) -> Result<(), NoMemory> {
-    let mut first = true;
-    for part in text.split('\\') {
-        if first {
-            bytes.extend_from_slice(part.as_bytes())?;
-        } else {
-            push_escaped(bytes, part.as_bytes())?;
-        }
-        first = false;
-    }
-    Ok(())
-}
-
-fn unescaped(alloc: Global, text: &str) -> Result<Vec<u8>, NoMemory> {
-    let mut bytes = Vec::new(alloc);
-    push_unescaped(&mut bytes, text)?;
-    Ok(bytes)
-}
-
-// ---- texts
 
 // The text of a line `NAME = TEXT` of a table.
-fn text_of<'t>(table: &'t str, name: &str) -> Option<&'t str> {
+fn text_of<'t>(table: &'t str, name: &str) -> &'t str {
     for line in table.lines() {
-        if let Some((first, text)) = line.split_once(" = ") {
-            if first == name {
-                return Some(text);
+        if let Some(rest) = behind(line, name) {
+            if let Some(text) = behind(rest, " = ") {
+                return text;
             }
         }
     }
-    None
+    "no text of this name"
 }
 
-/// The bytes of a text of a table.
-pub fn bytes_of(alloc: Global, table: &str, text: &str) -> Result<Vec<u8>, NoMemory> {
-    match text.strip_prefix("$") {
-        None => unescaped(alloc, text),
-        Some(name) => unescaped(
-            alloc,
-            text_of(table, name).unwrap_or("no text of this name"),
-        ),
+// Adds the bytes of a text of a table.
+pub fn push_text(bytes: &mut Parts, table: &str, text: &str) {
+    match behind(text, "$") {
+        None => unescape_all(bytes, text),
+        Some(name) => unescape_all(bytes, text_of(table, name)),
     }
 }
 
-/// Whether an event stands in a line.
-pub fn is_event(line: &str) -> bool {
-    !line.is_empty() && !line.starts_with(' ') && !line.starts_with("//")
+fn push_fill(bytes: &mut Parts, byte: u8, count: u64) {
+    for _ in 0..count {
+        bytes.add_byte(byte);
+    }
 }
 
 // ---- events
 
-/// An event in words: its name, its number, a count, and what it brings.
-#[derive(Drop)]
-pub struct Words<'t> {
-    name: &'t str,
-    number: u64,
-    count: u64,
-    text: Vec<u8>,
-    // What stands behind the count.
-    front: Vec<u8>,
+#[derive(Clone, Copy)]
+pub enum Name {
+    Accept,
+    Client,
+    // So many bytes of one kind.
+    Fill,
+    End,
+    Gone,
+    Wrote,
+    Started,
+    StartFailed,
+    StartFull,
+    Out,
+    OutEnd,
+    OutBroken,
+    // So much output of one byte, behind a front.
+    OutFill,
+    Took,
+    InGone,
+    Exited,
+    Message,
+    // A message of so many bytes.
+    MessageFill,
+    Binary,
+    Closed,
+    Refused,
+    Tick,
+    Ticks,
+    NoRoom,
+    Stop,
+    // The client of another connection is gone.
+    OtherGone,
 }
 
-impl<'t> Words<'t> {
-    fn text(&self) -> &str {
-        str::from_utf8(self.text.as_slice()).unwrap_or("no text")
-    }
-
-    fn front(&self) -> &str {
-        str::from_utf8(self.front.as_slice()).unwrap_or("no text")
-    }
-}
-
-fn number_of(text: &str) -> u64 {
-    text.parse::<u64>().unwrap_or(0)
-}
-
-// A word, and what stands behind the blank that follows it.
-fn cut(text: &str) -> (&str, &str) {
-    text.split_once(' ').unwrap_or((text, ""))
-}
-
-pub fn words_of<'t>(alloc: Global, table: &str, line: &'t str) -> Result<Words<'t>, NoMemory> {
-    let (name, rest) = cut(line);
-    let (number, text) = cut(rest);
-    let (count, front) = cut(text);
-    let text = bytes_of(alloc, table, text)?;
-    let front = bytes_of(alloc, table, front)?;
-    Ok(Words {
-        name,
-        number: number_of(number),
-        count: number_of(count),
-        text,
-        front,
-    })
-}
-
-// Events by their names, still without what they bring.
-static NAMES: [(&str, Heard); 25] = [
-    ("Started", Heard::Started(0)),
-    ("StartFailed", Heard::StartFailed(0)),
-    ("StartFull", Heard::StartFull(0, 0)),
-    ("Out", Heard::Out(0, "")),
-    ("OutEnd", Heard::OutEnd(0)),
-    ("OutBroken", Heard::OutBroken(0)),
-    ("OutFill", Heard::OutFill(0, "", 0)),
-    ("Took", Heard::Took(0, 0)),
-    ("InGone", Heard::InGone(0)),
-    ("Exited", Heard::Exited(0)),
-    ("Accept", Heard::Accept),
-    ("Client", Heard::Client("")),
-    ("Fill", Heard::Fill(0, 0)),
-    ("End", Heard::End),
-    ("Gone", Heard::Gone),
-    ("Wrote", Heard::Wrote(0)),
-    ("Tick", Heard::Tick(0)),
-    ("Ticks", Heard::Ticks(0)),
-    ("NoRoom", Heard::NoRoom),
-    ("Stop", Heard::Stop),
-    ("Message", Heard::Message("")),
-    ("MessageFill", Heard::MessageFill(0)),
-    ("Binary", Heard::Binary),
-    ("Closed", Heard::Closed),
-    ("Refused", Heard::Refused),
+static NAMES: [(&str, Name); 26] = [
+    ("Started", Name::Started),
+    ("StartFailed", Name::StartFailed),
+    ("StartFull", Name::StartFull),
+    ("Out", Name::Out),
+    ("OutEnd", Name::OutEnd),
+    ("OutBroken", Name::OutBroken),
+    ("OutFill", Name::OutFill),
+    ("Took", Name::Took),
+    ("InGone", Name::InGone),
+    ("Exited", Name::Exited),
+    ("Accept", Name::Accept),
+    ("Client", Name::Client),
+    ("Fill", Name::Fill),
+    ("End", Name::End),
+    ("Gone", Name::Gone),
+    ("Wrote", Name::Wrote),
+    ("Tick", Name::Tick),
+    ("Ticks", Name::Ticks),
+    ("NoRoom", Name::NoRoom),
+    ("Stop", Name::Stop),
+    ("Message", Name::Message),
+    ("MessageFill", Name::MessageFill),
+    ("Binary", Name::Binary),
+    ("Closed", Name::Closed),
+    ("Refused", Name::Refused),
+    ("OtherGone", Name::OtherGone),
 ];
 
-fn named(name: &str) -> Option<Heard<'static>> {
+fn named(name: &str) -> Option<Name> {
     for event in NAMES.as_slice() {
-        if event.0 == name {
+        if is(event.0, name) {
             return Some(event.1);
         }
     }
     None
 }
 
-fn of_child<'t>(named: Heard<'static>, words: &'t Words) -> Option<Heard<'t>> {
-    let k = words.number;
-    Some(match named {
-        Heard::Started(_) => Heard::Started(k),
-        Heard::StartFailed(_) => Heard::StartFailed(k),
-        Heard::StartFull(_, _) => Heard::StartFull(k, u32::try_from(words.count).ok()?),
-        Heard::Out(_, _) => Heard::Out(k, words.text()),
-        Heard::OutEnd(_) => Heard::OutEnd(k),
-        Heard::OutBroken(_) => Heard::OutBroken(k),
-        Heard::OutFill(_, _, _) => Heard::OutFill(k, words.front(), words.count as usize),
-        Heard::Took(_, _) => Heard::Took(k, words.count),
-        Heard::InGone(_) => Heard::InGone(k),
-        Heard::Exited(_) => Heard::Exited(k),
-        _ => named,
-    })
+// An event that brings no bytes.
+fn bare_event(c: u64, name: Name, number: u64, count: u64) -> Event {
+    match name {
+        Name::End => Event::ClientEof { c },
+        Name::Gone => Event::ClientGone { c },
+        Name::OtherGone => Event::ClientGone { c: number },
+        Name::Wrote => Event::Wrote { c, n: count },
+        Name::Binary => Event::WsBinary { c },
+        Name::Closed => Event::WsClosed { c },
+        Name::Refused => Event::WsBad { c },
+        Name::NoRoom => Event::NoRoom { c },
+        Name::Tick => Event::Tick { secs: number },
+        Name::Ticks => Event::Tick { secs: 0 },
+        _ => child_event(name, number, count),
+    }
 }
 
-/// The event of these words; none where no event has this name.
-pub fn heard_of<'t>(words: &'t Words) -> Option<Heard<'t>> {
-    let named = named(words.name)?;
-    Some(match named {
-        Heard::Client(_) => Heard::Client(words.text()),
-        Heard::Fill(_, _) => Heard::Fill(u8::try_from(words.number).ok()?, words.count as usize),
-        Heard::Wrote(_) => Heard::Wrote(words.count),
-        Heard::Tick(_) => Heard::Tick(words.number),
-        Heard::Ticks(_) => Heard::Ticks(u32::try_from(words.number).ok()?),
-        Heard::Message(_) => Heard::Message(words.text()),
-        Heard::MessageFill(_) => Heard::MessageFill(words.count as usize),
-        _ => return of_child(named, words),
-    })
+fn child_event(name: Name, k: u64, count: u64) -> Event {
+    match name {
+        Name::Started => Event::Started { k },
+        Name::StartFailed => Event::StartFailed { k },
+        Name::StartFull => Event::StartFull {
+            k,
+            seen: small_of(count),
+        },
+        Name::OutEnd => Event::ChildEof { k },
+        Name::OutBroken => Event::ChildBroken { k },
+        Name::Took => Event::Took { k, n: count },
+        Name::InGone => Event::InputGone { k },
+        Name::Exited => Event::Exited { k },
+        _ => Event::Stop,
+    }
+}
+
+// What is heard, step by step, and the acts that are due.
+#[derive(Drop)]
+pub struct Script {
+    alloc: Global,
+    // The connection.
+    conn: u64,
+    // Nothing stands where the acts of a beat are to be marked off.
+    pub events: Vec<Option<Event>>,
+    pub due: Parts,
+    // What comes, comes in single bytes.
+    single: bool,
+    // What an event brings.
+    bytes: Parts,
+    // A beat has begun.
+    begun: bool,
+}
+
+impl Script {
+    pub fn new(alloc: Global, conn: u64, single: bool) -> Self {
+        Script {
+            alloc,
+            conn,
+            events: Vec::new(alloc),
+            due: Parts::new(alloc),
+            single,
+            bytes: Parts::new(alloc),
+            begun: false,
+        }
+    }
+
+    fn push(&mut self, event: Option<Event>) {
+        if self.events.push(event).is_err() {
+            self.due.lose();
+        }
+    }
+
+    fn add(&mut self, event: Result<Event, NoMemory>) {
+        match event {
+            Ok(event) => self.push(Some(event)),
+            Err(_) => self.due.lose(),
+        }
+    }
+
+    // The beat ends.
+    pub fn mark(&mut self) {
+        self.push(None);
+    }
+
+    // Bytes of an event, from one place of what it brings to another.
+    fn hear_bytes(&mut self, name: Name, number: u64, from: usize, to: usize) {
+        let bytes = self.bytes.part(from, to);
+        let event = match name {
+            Name::Client | Name::Fill => client_bytes(self.alloc, self.conn, bytes),
+            Name::Message | Name::MessageFill => message(self.alloc, self.conn, bytes),
+            _ => child_bytes(self.alloc, number, bytes),
+        };
+        self.add(event);
+    }
+
+    // What was read is heard.
+    fn hear_read(&mut self, name: Name, number: u64) {
+        if self.bytes.is_lost() {
+            self.due.lose();
+        }
+        let len = self.bytes.len();
+        self.hear_bytes(name, number, 0, len);
+    }
+
+    // .. in single bytes, where what comes does.
+    fn hear_text(&mut self, table: &str, name: Name, number: u64, text: &str) {
+        push_text(&mut self.bytes, table, text);
+        if !self.single {
+            return self.hear_read(name, number);
+        }
+        let len = self.bytes.len();
+        for place in 0..len {
+            self.hear_bytes(name, number, place, place.saturating_add(1));
+        }
+    }
+
+    fn hear_fill(&mut self, name: Name, number: u64, byte: u8, count: u64) {
+        push_fill(&mut self.bytes, byte, count);
+        self.hear_read(name, number);
+    }
+
+    fn hear_bare(&mut self, name: Name, number: u64, count: u64) {
+        let event = bare_event(self.conn, name, number, count);
+        self.push(Some(event));
+    }
+
+    fn hear_ticks(&mut self, count: u64) {
+        for _ in 0..count {
+            self.hear_bare(Name::Tick, 0, 0);
+        }
+    }
+
+    /// Hears an event of this name, with its number and what it brings.
+    pub fn hear(&mut self, table: &str, name: Name, number: u64, text: &str) {
+        let (count, front) = cut(text);
+        let count = number_of(count);
+        self.bytes.clear();
+        match name {
+            Name::Accept => self.add(accepted(self.alloc)),
+            Name::Client | Name::Out => self.hear_text(table, name, number, text),
+            Name::Message => {
+                push_text(&mut self.bytes, table, text);
+                self.hear_read(name, number);
+            }
+            Name::Fill => self.hear_fill(name, number, number_byte(number), count),
+            Name::MessageFill => self.hear_fill(name, number, b'a', count),
+            Name::OutFill => {
+                push_text(&mut self.bytes, table, front);
+                self.hear_fill(name, number, b'a', count);
+            }
+            Name::Ticks => self.hear_ticks(number),
+            _ => self.hear_bare(name, number, count),
+        }
+    }
+
+    // What a line says is heard.
+    pub fn hear_line(&mut self, table: &str, line: &str) {
+        let (name, rest) = cut(line);
+        let (number, text) = cut(rest);
+        match named(name) {
+            Some(name) => self.hear(table, name, number_of(number), text),
+            // what names no event is not to be heard
+            None => self.due.push("no event\n"),
+        }
+    }
+
+    // The acts of a beat end.
+    fn end_beat(&mut self) {
+        if self.begun {
+            self.due.push("--\n");
+        }
+    }
+
+    fn beat(&mut self, table: &str, line: &str) {
+        if let Some(act) = behind(line, "    ") {
+            push_text(&mut self.due, table, act);
+            return self.due.push("\n");
+        }
+        if line.is_empty() || starts(line, " ") || starts(line, "//") {
+            return;
+        }
+        self.end_beat();
+        self.begun = true;
+        self.hear_line(table, line);
+        self.mark();
+    }
+
+    // The beats of a row, with the acts that are due.
+    pub fn beats(&mut self, table: &str, beats: &str) {
+        for line in beats.lines() {
+            self.beat(table, line);
+        }
+        self.due.push("--\n");
+    }
+}
+
+fn number_byte(number: u64) -> u8 {
+    u8::try_from(number).unwrap_or(0)
 }

@@ -1,9 +1,10 @@
 // The commands that need no loop: their words, their statuses and what they report.
-use super::drive::runs_over;
+use super::drive::{file, is_done, no_world, report_with, runs_over};
 use super::lines::shown;
-use host_base::{Bytes, NoMemory, Text};
+use super::script::{begins, behind, has, is, same};
+use host_base::{NoMemory, Text};
 use host_run::Status;
-use memory_world::{MemorySink, MemoryStore, MemoryWorld, StoredFile};
+use memory_world::{MemorySink, MemoryStore, StoredFile};
 use site_file::{SiteFault, read_site};
 use std::alloc::Global;
 use std::test::Fail;
@@ -16,13 +17,6 @@ const TWO: &str =
 // Two hosts, with a script and documents, and with a script.
 const HOSTS: &str =
     "version = 2\n\n[[host]]\nname = \"a.example\"\naliases = [\"www.a.example\"]\n\n[[host.script]]\npath = \"/s\"\nprogram = \"/srv/s\"\n\n[[host.documents]]\npath = \"/d\"\n\n[[host]]\nname = \"b.example\"\n\n[[host.script]]\npath = \"/t\"\nprogram = \"/srv/t\"\n";
-
-fn file(alloc: Global, name: &str, bytes: &[u8]) -> Result<StoredFile, NoMemory> {
-    Ok(StoredFile {
-        name: Text::copy_of(alloc, name)?,
-        bytes: Bytes::from_slice(alloc, bytes)?,
-    })
-}
 
 fn files(alloc: Global) -> Result<Vec<StoredFile>, NoMemory> {
     let two = TWO.as_bytes();
@@ -62,6 +56,15 @@ struct Came {
     store: MemoryStore,
 }
 
+fn put_by(came: &Came) -> &[u8] {
+    came.report.written()
+}
+
+// Whether so many bytes were put, and the store's count of faults is this.
+fn has_counts(came: &Came, put: usize, faults: u64) -> bool {
+    put_by(came).len() == put && came.store.faults() == faults
+}
+
 // Runs words over a world that can't be entered; the puts of these numbers fail.
 fn came_of<R: Threads + Sync>(
     rt: &R,
@@ -70,8 +73,8 @@ fn came_of<R: Threads + Sync>(
     failing: &[u64],
 ) -> Result<Came, NoMemory> {
     let mut store = store(alloc)?;
-    let mut report = MemorySink::new(alloc, Vec::from_slice(alloc, failing)?);
-    let mut world = MemoryWorld::new(alloc, Vec::new(alloc));
+    let mut report = report_with(alloc, failing)?;
+    let mut world = no_world(alloc);
     let status = runs_over(rt, alloc, words, &mut store, &mut report, &mut world)?;
     Ok(Came {
         status,
@@ -88,11 +91,7 @@ fn reports<R: Threads + Sync>(
     text: &[u8],
 ) -> Result<bool, NoMemory> {
     let came = came_of(rt, alloc, words, &[])?;
-    Ok(
-        matches!(came.status, Status::Done)
-            && came.report.written() == text
-            && came.store.faults() == 0,
-    )
+    Ok(is_done(&came.status) && same(put_by(&came), text) && has_counts(&came, text.len(), 0))
 }
 
 #[test]
@@ -112,12 +111,12 @@ fn sites_that_are_checked(rt: HostRuntime) -> Result<(), Fail> {
 // Whether a status says this: `not TOML`, `missing` and a key, or `unread`.
 fn says(status: &Status, wanted: &str) -> bool {
     match status {
-        Status::SiteRefused(SiteFault::NotToml) => wanted == "not TOML",
-        Status::SiteRefused(SiteFault::Missing(key)) => match wanted.strip_prefix("missing ") {
-            Some(wanted) => key.as_str() == wanted,
+        Status::SiteRefused(SiteFault::NotToml) => is(wanted, "not TOML"),
+        Status::SiteRefused(SiteFault::Missing(key)) => match behind(wanted, "missing ") {
+            Some(wanted) => is(key.as_str(), wanted),
             None => false,
         },
-        Status::SiteUnread => wanted == "unread",
+        Status::SiteUnread => is(wanted, "unread"),
         _ => false,
     }
 }
@@ -131,12 +130,8 @@ fn refuses<R: Threads + Sync>(
     wanted: &str,
 ) -> Result<bool, NoMemory> {
     let came = came_of(rt, alloc, &[task, name], &[])?;
-    let unread: u64 = if wanted == "unread" { 1 } else { 0 };
-    Ok(
-        says(&came.status, wanted)
-            && came.report.written().is_empty()
-            && came.store.faults() == unread,
-    )
+    let unread: u64 = if is(wanted, "unread") { 1 } else { 0 };
+    Ok(says(&came.status, wanted) && has_counts(&came, 0, unread))
 }
 
 #[test]
@@ -167,7 +162,7 @@ fn fails<R: Threads + Sync>(
     let came = came_of(rt, alloc, words, &[0])?;
     Ok(
         matches!(came.status, Status::ReportFault)
-            && came.report.written().len() == len
+            && put_by(&came).len() == len
             && came.report.faults() == 1,
     )
 }
@@ -194,7 +189,7 @@ fn has_scripts(alloc: Global, text: &str, count: usize) -> bool {
 }
 
 fn has_version_2(text: &str) -> bool {
-    text.starts_with("version = 2\n") || text.contains("\nversion = 2\n")
+    begins(text, "version = 2\n") || has(text, "\nversion = 2\n")
 }
 
 // Whether a site is written in version 2, with so many scripts of its first host.
@@ -205,12 +200,8 @@ fn is_upgraded<R: Threads + Sync>(
     scripts: usize,
 ) -> Result<bool, NoMemory> {
     let came = came_of(rt, alloc, &["upgrade", name], &[])?;
-    let text = shown(came.report.written());
-    Ok(
-        matches!(came.status, Status::Done)
-            && has_version_2(text)
-            && has_scripts(alloc, text, scripts),
-    )
+    let text = shown(put_by(&came));
+    Ok(is_done(&came.status) && has_version_2(text) && has_scripts(alloc, text, scripts))
 }
 
 // What is written for a site says it in version 2, and is written for it again.
@@ -236,7 +227,7 @@ fn unnamed(help: &str) -> &'static str {
         "--version",
         "  7  ",
     ] {
-        if !help.contains(form) {
+        if !has(help, form) {
             return form;
         }
     }
@@ -246,7 +237,7 @@ fn unnamed(help: &str) -> &'static str {
 fn unnamed_by_help<R: Threads + Sync>(rt: &R, alloc: Global) -> Result<&'static str, NoMemory> {
     let came = came_of(rt, alloc, &["--help"], &[])?;
     match came.status {
-        Status::Done => Ok(unnamed(shown(came.report.written()))),
+        Status::Done => Ok(unnamed(shown(put_by(&came)))),
         _ => Ok("not done"),
     }
 }
@@ -283,7 +274,7 @@ fn samples_that_are_reported(rt: HostRuntime) -> Result<(), Fail> {
 // Whether these words are none of a command, and nothing is reported.
 fn is_refused<R: Threads + Sync>(rt: &R, alloc: Global, words: &[&str]) -> Result<bool, NoMemory> {
     let came = came_of(rt, alloc, words, &[])?;
-    Ok(matches!(came.status, Status::Usage) && came.report.written().is_empty())
+    Ok(matches!(came.status, Status::Usage) && put_by(&came).is_empty())
 }
 
 #[test]

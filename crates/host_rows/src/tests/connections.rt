@@ -1,5 +1,6 @@
 // Connections beside one another, act for act: each goes on as by itself.
 use super::drive::Heard::{Accepted, ClientEof, Stop};
+use super::lines::shut_line;
 use super::play::{Play, has_rows, plays};
 use host_base::NoMemory;
 use std::test::Fail;
@@ -324,7 +325,7 @@ fn stop(play: &mut Play, count: u64, shut: u64) -> Result<(), NoMemory> {
     play.beat(Stop, &[])?;
     for c in 0..count {
         if c != shut {
-            let line = format!(in alloc; "Shut {c} Stopped")?;
+            let line = shut_line(alloc, c, "Stopped")?;
             play.follow(line.as_str())?;
         }
     }

@@ -1,4 +1,6 @@
 // Runs of the top call over memory: what is heard, the site files that are stored, and the words.
+use super::script::is;
+use super::texts::{OUTPUT, REQUEST};
 use host_base::{Bytes, NoMemory, Peer, Text};
 use host_run::{Status, run};
 use host_trace::{Event, Events};
@@ -7,6 +9,16 @@ use std::alloc::Global;
 use std::thread::Threads;
 
 pub const WORDS: [&str; 2] = ["once", "/cgi-bin/hello=/srv/cgi/hello"];
+
+/// The exchange of the first reply.
+pub const FIRST: [Heard<'static>; 6] = [
+    Heard::Accepted,
+    Heard::Client(0, REQUEST),
+    Heard::Started(0),
+    Heard::Output(0, OUTPUT),
+    Heard::OutputEof(0),
+    Heard::Exited(0),
+];
 
 /// What is heard, of a connection or a child by its number.
 #[derive(Clone, Copy)]
@@ -38,6 +50,8 @@ pub enum Heard<'t> {
     WsBinary(u64),
     WsClosed(u64),
     WsBad(u64),
+    /// A Tick at 0 Unix seconds.
+    Tick,
     /// A Tick at these Unix seconds.
     TickAt(u64),
     /// So many Ticks on 6 November 1994 at 8:49:37.
@@ -53,7 +67,8 @@ pub fn count_of(heard: Heard) -> u32 {
     }
 }
 
-fn filled(alloc: Global, count: usize) -> Result<Bytes, NoMemory> {
+/// So many bytes `x`.
+pub fn filled(alloc: Global, count: usize) -> Result<Bytes, NoMemory> {
     Ok(Bytes::from_vec(vec![in alloc; b'x'; count]?))
 }
 
@@ -64,81 +79,71 @@ fn filled_behind(alloc: Global, front: &[u8], count: usize) -> Result<Bytes, NoM
     Ok(bytes)
 }
 
-// The bytes that are brought; none where nothing is.
-fn brought(alloc: Global, heard: Heard) -> Result<Option<Bytes>, NoMemory> {
-    match heard {
-        Heard::Client(_, bytes) | Heard::Output(_, bytes) | Heard::WsText(_, bytes) => {
-            Ok(Some(Bytes::from_slice(alloc, bytes)?))
-        }
-        Heard::ClientFill(_, count) | Heard::OutputFill(_, count) | Heard::WsFill(_, count) => {
-            Ok(Some(filled(alloc, count)?))
-        }
-        Heard::OutputLong(_, count) => {
-            Ok(Some(filled_behind(alloc, b"Content-Type: text/plain\n\n", count)?))
-        }
-        _ => Ok(None),
-    }
-}
-
-// The event that brings these bytes.
-fn event_with(heard: Heard, bytes: Bytes) -> Event {
-    match heard {
-        Heard::Client(c, _) | Heard::ClientFill(c, _) => Event::ClientBytes { c, bytes },
-        Heard::Output(k, _) | Heard::OutputFill(k, _) | Heard::OutputLong(k, _) => {
-            Event::ChildBytes { k, bytes }
-        }
-        Heard::WsText(c, _) | Heard::WsFill(c, _) => Event::WsText { c, bytes },
-        _ => Event::Stop,
-    }
-}
-
-// Any other event of a child.
-fn child_event(heard: Heard) -> Option<Event> {
-    match heard {
-        Heard::Started(k) => Some(Event::Started { k }),
-        Heard::StartFailed(k) => Some(Event::StartFailed { k }),
-        Heard::StartFull(k, seen) => Some(Event::StartFull { k, seen }),
-        Heard::OutputEof(k) => Some(Event::ChildEof { k }),
-        Heard::Broken(k) => Some(Event::ChildBroken { k }),
-        Heard::Took(k, n) => Some(Event::Took { k, n }),
-        Heard::InputGone(k) => Some(Event::InputGone { k }),
-        Heard::Exited(k) => Some(Event::Exited { k }),
-        _ => None,
-    }
-}
-
-// Any other event, where a client hasn't just come.
-fn client_event(heard: Heard) -> Event {
-    match heard {
-        Heard::ClientEof(c) => Event::ClientEof { c },
-        Heard::Gone(c) => Event::ClientGone { c },
-        Heard::NoRoom(c) => Event::NoRoom { c },
-        Heard::Wrote(c, n) => Event::Wrote { c, n },
-        Heard::WsBinary(c) => Event::WsBinary { c },
-        Heard::WsClosed(c) => Event::WsClosed { c },
-        Heard::WsBad(c) => Event::WsBad { c },
-        Heard::TickAt(secs) => Event::Tick { secs },
-        Heard::Ticks(_) => Event::Tick { secs: 784_111_777 },
-        _ => Event::Stop,
-    }
-}
-
-// The event where no bytes are brought.
-fn bare_event(alloc: Global, heard: Heard) -> Result<Event, NoMemory> {
-    match heard {
-        Heard::Accepted => Ok(Event::Accepted {
-            peer: Peer(Text::copy_of(alloc, "192.0.2.1")?),
-        }),
-        _ => Ok(child_event(heard).unwrap_or(client_event(heard))),
-    }
+pub fn peer(alloc: Global) -> Result<Peer, NoMemory> {
+    Ok(Peer(Text::copy_of(alloc, "192.0.2.1")?))
 }
 
 /// The event.
 pub fn event_of(alloc: Global, heard: Heard) -> Result<Event, NoMemory> {
-    match brought(alloc, heard)? {
-        Some(bytes) => Ok(event_with(heard, bytes)),
-        None => bare_event(alloc, heard),
+    Ok(match heard {
+        Heard::Accepted => Event::Accepted { peer: peer(alloc)? },
+        Heard::Client(c, bytes) => Event::ClientBytes {
+            c,
+            bytes: Bytes::from_slice(alloc, bytes)?,
+        },
+        Heard::ClientFill(c, count) => Event::ClientBytes {
+            c,
+            bytes: filled(alloc, count)?,
+        },
+        Heard::ClientEof(c) => Event::ClientEof { c },
+        Heard::Gone(c) => Event::ClientGone { c },
+        Heard::NoRoom(c) => Event::NoRoom { c },
+        Heard::Wrote(c, n) => Event::Wrote { c, n },
+        Heard::Started(k) => Event::Started { k },
+        Heard::StartFailed(k) => Event::StartFailed { k },
+        Heard::StartFull(k, seen) => Event::StartFull { k, seen },
+        Heard::Output(k, bytes) => Event::ChildBytes {
+            k,
+            bytes: Bytes::from_slice(alloc, bytes)?,
+        },
+        Heard::OutputFill(k, count) => Event::ChildBytes {
+            k,
+            bytes: filled(alloc, count)?,
+        },
+        Heard::OutputLong(k, count) => Event::ChildBytes {
+            k,
+            bytes: filled_behind(alloc, b"Content-Type: text/plain\n\n", count)?,
+        },
+        Heard::OutputEof(k) => Event::ChildEof { k },
+        Heard::Broken(k) => Event::ChildBroken { k },
+        Heard::Took(k, n) => Event::Took { k, n },
+        Heard::InputGone(k) => Event::InputGone { k },
+        Heard::Exited(k) => Event::Exited { k },
+        Heard::WsText(c, bytes) => Event::WsText {
+            c,
+            bytes: Bytes::from_slice(alloc, bytes)?,
+        },
+        Heard::WsFill(c, count) => Event::WsText {
+            c,
+            bytes: filled(alloc, count)?,
+        },
+        Heard::WsBinary(c) => Event::WsBinary { c },
+        Heard::WsClosed(c) => Event::WsClosed { c },
+        Heard::WsBad(c) => Event::WsBad { c },
+        Heard::Tick => Event::Tick { secs: 0 },
+        Heard::TickAt(secs) => Event::Tick { secs },
+        Heard::Ticks(_) => Event::Tick { secs: 784_111_777 },
+        Heard::Stop => Event::Stop,
+    })
+}
+
+/// The events, each of which is heard once.
+pub fn events_of(alloc: Global, list: &[Heard]) -> Result<Events, NoMemory> {
+    let mut events = Events::new(alloc);
+    for heard in list {
+        events.push(event_of(alloc, *heard)?)?;
     }
+    Ok(events)
 }
 
 // ---- sites
@@ -253,10 +258,11 @@ path = \"/t\"
 program = \"/srv/b/t\"
 ";
 
-fn file(alloc: Global, name: &str, text: &str) -> Result<StoredFile, NoMemory> {
+/// A stored file.
+pub fn file(alloc: Global, name: &str, bytes: &[u8]) -> Result<StoredFile, NoMemory> {
     Ok(StoredFile {
         name: Text::copy_of(alloc, name)?,
-        bytes: Bytes::from_slice(alloc, text.as_bytes())?,
+        bytes: Bytes::from_slice(alloc, bytes)?,
     })
 }
 
@@ -271,41 +277,85 @@ fn store(alloc: Global) -> Result<MemoryStore, NoMemory> {
         ("nested", NESTED),
         ("hosts", HOSTS),
     ] {
-        files.push(file(alloc, name, text)?)?;
+        files.push(file(alloc, name, text.as_bytes())?)?;
     }
     Ok(MemoryStore::new(files, Vec::new(alloc)))
 }
 
 /// How many children of the site may run.
 pub fn limit_of(site: &str) -> u32 {
-    if site == "one" { 1 } else { 64 }
+    if is(site, "one") { 1 } else { 64 }
 }
 
 // ---- runs
 
-/// A world of one outside with these events, which refuses the acts of these numbers where it may, has room to
-/// tell so many items, and lets so many children run.
-pub fn world_with(
+/// An outside with these events, which refuses the acts of these numbers where it may, has room to tell so many items,
+/// and lets so many children run.
+pub fn outside_with(
     alloc: Global,
     events: Events,
     refused: Vec<u64>,
     room: usize,
     limit: u32,
+) -> Result<MemoryOutside, NoMemory> {
+    MemoryOutside::new(alloc, events, refused, room, limit)
+}
+
+/// An outside that hears this, has room to tell so many items, and lets so many children run.
+pub fn outside_of(
+    alloc: Global,
+    heard: &[Heard],
+    room: usize,
+    limit: u32,
+) -> Result<MemoryOutside, NoMemory> {
+    outside_with(
+        alloc,
+        events_of(alloc, heard)?,
+        Vec::new(alloc),
+        room,
+        limit,
+    )
+}
+
+/// A world of these outsides.
+pub fn world_with(alloc: Global, outs: Vec<MemoryOutside>) -> MemoryWorld {
+    MemoryWorld::new(alloc, outs)
+}
+
+/// A world of one outside.
+pub fn world_in(alloc: Global, out: MemoryOutside) -> Result<MemoryWorld, NoMemory> {
+    let mut outs = Vec::new(alloc);
+    outs.push(out)?;
+    Ok(world_with(alloc, outs))
+}
+
+/// A world of two outsides.
+pub fn world_of_two(
+    alloc: Global,
+    first: MemoryOutside,
+    second: MemoryOutside,
 ) -> Result<MemoryWorld, NoMemory> {
     let mut outs = Vec::new(alloc);
-    outs.push(MemoryOutside::new(alloc, events, refused, room, limit)?)?;
-    Ok(MemoryWorld::new(alloc, outs))
+    outs.push(first)?;
+    outs.push(second)?;
+    Ok(world_with(alloc, outs))
+}
+
+/// A world that can't be entered.
+pub fn no_world(alloc: Global) -> MemoryWorld {
+    world_with(alloc, Vec::new(alloc))
 }
 
 /// A world of one outside that refuses nothing.
 pub fn world_of(alloc: Global, heard: &[Heard]) -> Result<MemoryWorld, NoMemory> {
-    let mut events = Events::new(alloc);
-    for one in heard {
-        events.push(event_of(alloc, *one)?)?;
-    }
     // Each event is followed by few acts, and most by one.
     let room = heard.len().saturating_mul(2).saturating_add(64);
-    world_with(alloc, events, Vec::new(alloc), room, 64)
+    world_in(alloc, outside_of(alloc, heard, room, 64)?)
+}
+
+/// Where the puts of these numbers fail.
+pub fn report_with(alloc: Global, failing: &[u64]) -> Result<MemorySink, NoMemory> {
+    Ok(MemorySink::new(alloc, Vec::from_slice(alloc, failing)?))
 }
 
 fn words_of(alloc: Global, words: &[&str]) -> Result<Vec<String>, NoMemory> {
@@ -337,6 +387,14 @@ pub fn runs<R: Threads + Sync>(
     world: &mut MemoryWorld,
 ) -> Result<Status, NoMemory> {
     let mut store = store(alloc)?;
-    let mut report = MemorySink::new(alloc, Vec::new(alloc));
+    let mut report = report_with(alloc, &[])?;
     runs_over(rt, alloc, words, &mut store, &mut report, world)
+}
+
+pub fn is_done(status: &Status) -> bool {
+    matches!(status, Status::Done)
+}
+
+pub fn is_spent(status: &Status) -> bool {
+    matches!(status, Status::Spent)
 }

@@ -1,6 +1,7 @@
 // What `explain` reports of requests over memory.
-use super::drive::{Heard, runs_over, world_of};
-use super::lines::{shown, told};
+use super::drive::{Heard, is_done, report_with, runs_over, world_of};
+use super::lines::{joined, shown, told};
+use super::script::{is, single_bytes};
 use super::texts::REQUEST;
 use host_base::NoMemory;
 use host_run::Status;
@@ -27,7 +28,7 @@ fn came_of<R: Threads + Sync>(
     failing: &[u64],
 ) -> Result<Came, NoMemory> {
     let mut store = MemoryStore::new(Vec::new(alloc), Vec::new(alloc));
-    let mut report = MemorySink::new(alloc, Vec::from_slice(alloc, failing)?);
+    let mut report = report_with(alloc, failing)?;
     let mut world = world_of(alloc, heard)?;
     let status = runs_over(rt, alloc, &WORDS, &mut store, &mut report, &mut world)?;
     Ok(Came {
@@ -39,12 +40,12 @@ fn came_of<R: Threads + Sync>(
 
 // Whether this is reported, and one trace is given back.
 fn reports(came: &Came, text: &str) -> bool {
-    shown(came.report.written()) == text && came.world.given().len() == 1
+    is(shown(came.report.written()), text) && came.world.given().len() == 1
 }
 
 // .. and all is done.
 fn is_explained(came: &Came, text: &str) -> bool {
-    matches!(came.status, Status::Done) && reports(came, text)
+    is_done(&came.status) && reports(came, text)
 }
 
 // Whether this is reported of what is heard.
@@ -80,7 +81,7 @@ fn is_only_asked_for<R: Threads + Sync>(rt: &R, alloc: Global) -> Result<bool, N
     let heard = [Heard::Accepted, Heard::Client(0, REQUEST)];
     let came = came_of(rt, alloc, &heard, &[])?;
     let trace = told(alloc, &came.world)?;
-    Ok(is_explained(&came, HELLO) && trace.as_str() == ASKED)
+    Ok(is_explained(&came, HELLO) && is(trace.as_str(), ASKED))
 }
 
 #[test]
@@ -120,8 +121,9 @@ env HTTP_HOST=example.com:8080
 fn in_single_bytes(alloc: Global) -> Result<Vec<Heard<'static>>, NoMemory> {
     let mut heard = Vec::new(alloc);
     heard.push(Heard::Accepted)?;
-    for piece in REQUEST.chunks(1) {
-        heard.push(Heard::Client(0, piece))?;
+    let pieces = single_bytes(alloc, REQUEST)?;
+    for piece in pieces.as_slice() {
+        heard.push(Heard::Client(0, *piece))?;
     }
     Ok(heard)
 }
@@ -144,7 +146,7 @@ fn is_refused<R: Threads + Sync>(
     request: &[u8],
     cause: &str,
 ) -> Result<bool, NoMemory> {
-    let text = format!(in alloc; "refused: {cause}\n")?;
+    let text = joined(alloc, "refused: ", cause, "\n")?;
     let heard = [Heard::Accepted, Heard::Client(0, request)];
     explains(rt, alloc, &heard, text.as_str())
 }

@@ -1,7 +1,7 @@
 // What heads bring, over memory by the top call: each condition just met and just missed, and however their
 // bytes come.
 use super::pieces::{Part, due_of, is_right_in_any, repeated};
-use super::script::{bytes_of, column, count_of, is_row};
+use super::script::{bytes_of, column, rows_of};
 use host_base::NoMemory;
 use std::alloc::Global;
 use std::process::Abort;
@@ -264,12 +264,12 @@ fn wrong_case<R: Threads + Sync>(
     rt: &R,
     alloc: Global,
     before: &[u8],
-    cases: &'static str,
+    cases: &[&'static str],
     after: &[u8],
 ) -> Result<&'static str, NoMemory> {
-    for case in cases.lines() {
-        if is_row(case) && !is_case(rt, alloc, before, case, after)? {
-            return Ok(case);
+    for case in cases {
+        if !is_case(rt, alloc, before, *case, after)? {
+            return Ok(*case);
         }
     }
     Ok("")
@@ -280,11 +280,12 @@ fn are_right<R: Threads + Abort + Sync>(
     rt: &R,
     alloc: Global,
     before: &[u8],
-    (cases, count): (&'static str, usize),
+    (table, count): (&'static str, usize),
     after: &[u8],
 ) -> Result<(), Fail> {
-    assert_eq!(rt; count_of(cases), count);
-    assert_eq!(rt; wrong_case(rt, alloc, before, cases, after)?, "");
+    let cases = rows_of(alloc, table)?;
+    assert_eq!(rt; cases.len(), count);
+    assert_eq!(rt; wrong_case(rt, alloc, before, cases.as_slice(), after)?, "");
     Ok(())
 }
 

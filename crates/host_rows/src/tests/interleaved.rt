@@ -4,7 +4,7 @@ use super::drive::Heard::{
     Accepted, Client, ClientEof, Exited, Gone, Output, OutputEof, StartFailed, Started, Stop, Took,
     WsText,
 };
-use super::lines::{numbered, with_text};
+use super::lines::{numbered, shut_line, start_line, with_text};
 use super::play::{Play, plays};
 use super::talks::HANDSHAKE;
 use super::texts::{OUTPUT, REQUEST};
@@ -204,11 +204,14 @@ struct Teller {
 
 impl Teller {
     fn kid(&self, place: usize) -> u64 {
-        self.kids.get(place).copied().unwrap_or(0)
+        match self.kids.get(place) {
+            Some(kid) => *kid,
+            None => 0,
+        }
     }
 
     fn kid_at(&self, place: u64) -> u64 {
-        self.kid(usize::try_from(place).unwrap_or(0))
+        self.kid(place as usize)
     }
 
     fn heard(&self, heard: Heard<'static>) -> Heard<'static> {
@@ -247,10 +250,8 @@ impl Teller {
             Upgrade => with_text(alloc, "Upgrade", c, ""),
             Says(texts) => with_text(alloc, "Says", c, texts),
             CloseWs(code) => with_text(alloc, "CloseWs", c, code),
-            Shut(why) => Ok(format!(in alloc; "Shut {c} {why}")?),
-            Start(j, hop, program) => {
-                Ok(format!(in alloc; "Start {next} ({c}, {j}, {hop}) {program}")?)
-            }
+            Shut(why) => shut_line(alloc, c, why),
+            Start(j, hop, program) => start_line(alloc, next, (c, u128::from(j), hop), program),
             other => self.child_line(alloc, other),
         }
     }
@@ -361,7 +362,7 @@ fn interleaved(alloc: Global, seed: u32) -> Result<Play, NoMemory> {
 fn eight_connections_in_any_order(rt: HostRuntime) -> Result<(), Fail> {
     for seed in 0..100u32 {
         let play = interleaved(rt.alloc(), seed)?;
-        let name = format!(in rt.alloc(); "seed {seed}")?;
+        let name = numbered(rt.alloc(), "seed", u64::from(seed))?;
         plays(&rt, "serve", "site", name.as_str(), play)?;
     }
     Ok(())

@@ -1,9 +1,9 @@
 // What children are started with and fed.
 use super::drive::Heard::{Accepted, Client, Exited, Output, OutputEof, Started};
-use super::drive::{Heard, runs, world_of};
-use super::lines::{fed, given, launches_of, words_of_launches};
+use super::drive::{Heard, is_done, runs, world_of};
+use super::lines::{fed, given, joined, launches_of, words_of_launches};
+use super::script::{is, same};
 use host_base::NoMemory;
-use host_run::Status;
 use host_trace::Item;
 use std::alloc::Global;
 use std::test::Fail;
@@ -306,12 +306,12 @@ const CASES: [Case; 9] = [
 
 fn is_launched(alloc: Global, items: &[Item], wanted: &str) -> Result<bool, NoMemory> {
     let launched = launches_of(alloc, items)?;
-    Ok(launched.as_str() == wanted)
+    Ok(is(launched.as_str(), wanted))
 }
 
 fn is_fed(alloc: Global, items: &[Item], wanted: &str) -> Result<bool, NoMemory> {
     let fed = fed(alloc, items)?;
-    Ok(fed.as_slice() == wanted.as_bytes())
+    Ok(same(fed.as_slice(), wanted.as_bytes()))
 }
 
 fn is_right<R: Threads + Sync>(rt: &R, alloc: Global, case: &Case) -> Result<bool, NoMemory> {
@@ -319,7 +319,7 @@ fn is_right<R: Threads + Sync>(rt: &R, alloc: Global, case: &Case) -> Result<boo
     let status = runs(rt, alloc, &["once", case.site], &mut world)?;
     let items = given(&world);
     Ok(
-        matches!(status, Status::Done)
+        is_done(&status)
             && is_launched(alloc, items, case.launched)?
             && is_fed(alloc, items, case.fed)?,
     )
@@ -355,12 +355,17 @@ fn searches<R: Threads + Sync>(
     line: &str,
     words: &str,
 ) -> Result<bool, NoMemory> {
-    let request = format!(in alloc; "{line} HTTP/1.1\r\nHost: a\r\nContent-Length: 0\r\n\r\n")?;
+    let request = joined(
+        alloc,
+        line,
+        " HTTP/1.1\r\nHost: a\r\nContent-Length: 0\r\n\r\n",
+        "",
+    )?;
     let mut world = world_of(alloc, &[Accepted, Client(0, request.as_bytes())])?;
     let status = runs(rt, alloc, &["once", "site"], &mut world)?;
     let started = words_of_launches(alloc, given(&world))?;
-    let wanted = format!(in alloc; "/srv/cgi/hello{words}")?;
-    Ok(matches!(status, Status::Done) && started.as_str() == wanted.as_str())
+    let wanted = joined(alloc, "/srv/cgi/hello", words, "")?;
+    Ok(is_done(&status) && is(started.as_str(), wanted.as_str()))
 }
 
 #[test]

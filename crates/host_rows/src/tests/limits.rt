@@ -4,7 +4,7 @@ use super::drive::Heard::{Accepted, Client, ClientEof, Stop};
 use super::launches::CHUNKED_FORM;
 use super::pieces::{Part, Wanted, due_of, is_right_in_two, is_right_whole};
 use super::play::{Play, has_rows, plays};
-use super::script::{bytes_of, column, count_of, is_row, size_of};
+use super::script::{bytes_of, column, halves, rows_of, size_of};
 use super::texts::WRITE_ENDED_EARLY;
 use host_base::NoMemory;
 use std::alloc::Global;
@@ -24,7 +24,7 @@ fn break_off(play: &mut Play, front: &[u8]) -> Result<(), NoMemory> {
 #[test]
 fn each_front_of_a_request(rt: HostRuntime) -> Result<(), Fail> {
     for count in 1..CHUNKED_FORM.len() {
-        let (front, _) = CHUNKED_FORM.split_at(count);
+        let (front, _) = halves(CHUNKED_FORM, count);
         let mut play = Play::new(rt.alloc());
         break_off(&mut play, front)?;
         plays(&rt, "once", "site", "a front", play)?;
@@ -187,14 +187,9 @@ fn is_right<R: Threads + Sync>(
     )
 }
 
-fn is_long<R: Threads + Sync>(
-    rt: &R,
-    alloc: Global,
-    table: &str,
-    long: &str,
-) -> Result<bool, NoMemory> {
+fn is_long<R: Threads + Sync>(rt: &R, alloc: Global, long: &str) -> Result<bool, NoMemory> {
     let text = text_of(alloc, long)?;
-    let due = due_of(alloc, table, column(long, 4))?;
+    let due = due_of(alloc, LONG, column(long, 4))?;
     is_right(rt, alloc, text.as_slice(), due.wanted())
 }
 
@@ -202,11 +197,11 @@ fn is_long<R: Threads + Sync>(
 fn wrong_long<R: Threads + Sync>(
     rt: &R,
     alloc: Global,
-    table: &'static str,
+    rows: &[&'static str],
 ) -> Result<&'static str, NoMemory> {
-    for long in table.lines() {
-        if is_row(long) && !is_long(rt, alloc, table, long)? {
-            return Ok(long);
+    for long in rows {
+        if !is_long(rt, alloc, *long)? {
+            return Ok(*long);
         }
     }
     Ok("")
@@ -214,8 +209,8 @@ fn wrong_long<R: Threads + Sync>(
 
 #[test]
 fn heads_targets_and_fields_at_their_limits(rt: HostRuntime) -> Result<(), Fail> {
-    let table = LONG;
-    assert_eq!(rt; count_of(table), 13);
-    assert_eq!(rt; wrong_long(&rt, rt.alloc(), table)?, "");
+    let rows = rows_of(rt.alloc(), LONG)?;
+    assert_eq!(rt; rows.len(), 13);
+    assert_eq!(rt; wrong_long(&rt, rt.alloc(), rows.as_slice())?, "");
     Ok(())
 }

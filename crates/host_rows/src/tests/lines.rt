@@ -1,6 +1,6 @@
 // Traces as lines, an event at the margin and its acts below it, to compare whole traces.
 use host_base::{Bytes, Launch, NoMemory, Pair, Text, Texts};
-use host_trace::{Act, Event, Item};
+use host_trace::{Act, Event, Item, Why};
 use memory_world::MemoryWorld;
 use std::alloc::Global;
 
@@ -9,11 +9,36 @@ pub fn shown(bytes: &[u8]) -> &str {
     str::from_utf8(bytes).unwrap_or("(no text)")
 }
 
+fn push(text: &mut String, part: &str) -> Result<(), NoMemory> {
+    text.push_str(part)?;
+    Ok(())
+}
+
+/// These three texts, one behind the other.
+pub fn joined(alloc: Global, first: &str, second: &str, third: &str) -> Result<String, NoMemory> {
+    let mut all = String::new(alloc);
+    push(&mut all, first)?;
+    push(&mut all, second)?;
+    push(&mut all, third)?;
+    Ok(all)
+}
+
+fn digits(alloc: Global, number: u64) -> Result<String, NoMemory> {
+    Ok(number.to_string(alloc)?)
+}
+
+// A letter that stands so often.
+fn push_counted(alloc: Global, line: &mut String, one: char, count: u64) -> Result<(), NoMemory> {
+    let start = with_words(alloc, "[", count, " times ")?;
+    push(line, start.as_str())?;
+    line.push(one)?;
+    push(line, "]")?;
+    Ok(())
+}
+
 fn push_run(alloc: Global, line: &mut String, one: char, count: usize) -> Result<(), NoMemory> {
     if count >= 100 {
-        let text = format!(in alloc; "[{count} times {one}]")?;
-        line.push_str(text.as_str())?;
-        return Ok(());
+        return push_counted(alloc, line, one, count as u64);
     }
     for _ in 0..count {
         line.push(one)?;
@@ -39,18 +64,53 @@ fn counted(alloc: Global, bytes: &[u8]) -> Result<String, NoMemory> {
     Ok(line)
 }
 
-/// A name and a number.
-pub fn numbered(alloc: Global, name: &str, number: u64) -> Result<String, NoMemory> {
-    Ok(format!(in alloc; "{name} {number}")?)
+/// A number between two texts.
+pub fn with_words(alloc: Global, first: &str, number: u64, last: &str) -> Result<String, NoMemory> {
+    let number = digits(alloc, number)?;
+    joined(alloc, first, number.as_str(), last)
 }
 
-fn with_count(alloc: Global, name: &str, number: u64, count: u64) -> Result<String, NoMemory> {
-    Ok(format!(in alloc; "{name} {number}: {count}")?)
+/// A name and a number, and a text behind this mark.
+pub fn marked(
+    alloc: Global,
+    name: &str,
+    number: u64,
+    mark: &str,
+    text: &str,
+) -> Result<String, NoMemory> {
+    let number = digits(alloc, number)?;
+    let start = joined(alloc, name, " ", number.as_str())?;
+    joined(alloc, start.as_str(), mark, text)
+}
+
+/// A name and a number.
+pub fn numbered(alloc: Global, name: &str, number: u64) -> Result<String, NoMemory> {
+    marked(alloc, name, number, "", "")
 }
 
 /// A name and a number, and a text behind them.
 pub fn with_text(alloc: Global, name: &str, number: u64, text: &str) -> Result<String, NoMemory> {
-    Ok(format!(in alloc; "{name} {number}: {text}")?)
+    marked(alloc, name, number, ": ", text)
+}
+
+fn with_count(alloc: Global, name: &str, number: u64, count: u64) -> Result<String, NoMemory> {
+    let count = digits(alloc, count)?;
+    with_text(alloc, name, number, count.as_str())
+}
+
+/// The line of a Start: for the connection, the exchange and the hop.
+pub fn start_line(
+    alloc: Global,
+    k: u64,
+    (c, j, hop): (u64, u128, u32),
+    program: &str,
+) -> Result<String, NoMemory> {
+    Ok(format!(in alloc; "Start {k} ({c}, {j}, {hop}) {program}")?)
+}
+
+/// The line of a Shut.
+pub fn shut_line(alloc: Global, c: u64, why: &str) -> Result<String, NoMemory> {
+    marked(alloc, "Shut", c, " ", why)
 }
 
 fn with_bytes(alloc: Global, name: &str, number: u64, bytes: &Bytes) -> Result<String, NoMemory> {
@@ -60,7 +120,7 @@ fn with_bytes(alloc: Global, name: &str, number: u64, bytes: &Bytes) -> Result<S
 
 fn client_line(alloc: Global, event: &Event) -> Result<String, NoMemory> {
     match event {
-        Event::Accepted { peer } => Ok(format!(in alloc; "Accepted {}", peer.0.as_str())?),
+        Event::Accepted { peer } => joined(alloc, "Accepted ", peer.0.as_str(), ""),
         Event::ClientBytes { c, bytes } => {
             with_count(alloc, "ClientBytes", *c, bytes.len() as u64)
         }
@@ -95,7 +155,7 @@ pub fn event_line(alloc: Global, event: &Event) -> Result<String, NoMemory> {
 
 fn push_text(alloc: Global, line: &mut String, text: &Text) -> Result<(), NoMemory> {
     let text = counted(alloc, text.as_str().as_bytes())?;
-    line.push_str(text.as_str())?;
+    push(line, text.as_str())?;
     line.push_str("; ")?;
     Ok(())
 }
@@ -116,10 +176,7 @@ fn child_act_line(alloc: Global, act: &Act) -> Result<String, NoMemory> {
             j,
             hop,
             launch,
-        } => {
-            let program = launch.program.as_str();
-            Ok(format!(in alloc; "Start {k} ({c}, {j}, {hop}) {program}")?)
-        }
+        } => start_line(alloc, *k, (*c, *j, *hop), launch.program.as_str()),
         Act::Feed { k, bytes } => with_bytes(alloc, "Feed", *k, bytes),
         Act::EndInput { k } => numbered(alloc, "EndInput", *k),
         Act::WantChild { k } => numbered(alloc, "WantChild", *k),
@@ -129,12 +186,17 @@ fn child_act_line(alloc: Global, act: &Act) -> Result<String, NoMemory> {
     }
 }
 
+fn shut_for(alloc: Global, c: u64, why: Why) -> Result<String, NoMemory> {
+    let why = format!(in alloc; "{why:?}")?;
+    shut_line(alloc, c, why.as_str())
+}
+
 /// The line of an act.
 pub fn act_line(alloc: Global, act: &Act) -> Result<String, NoMemory> {
     match act {
         Act::WantClient { c } => numbered(alloc, "WantClient", *c),
         Act::Write { c, bytes } => with_bytes(alloc, "Write", *c, bytes),
-        Act::Shut { c, why } => Ok(format!(in alloc; "Shut {c} {why:?}")?),
+        Act::Shut { c, why } => shut_for(alloc, *c, *why),
         Act::Upgrade { c, rest } => with_bytes(alloc, "Upgrade", *c, rest),
         Act::Says { c, texts } => says_line(alloc, *c, texts),
         Act::CloseWs { c, code } => with_count(alloc, "CloseWs", *c, u64::from(*code)),
@@ -144,16 +206,16 @@ pub fn act_line(alloc: Global, act: &Act) -> Result<String, NoMemory> {
 
 /// Adds the line of an act, which begins below its event's.
 pub fn push_act(lines: &mut String, line: &str) -> Result<(), NoMemory> {
-    lines.push_str("    ")?;
-    lines.push_str(line)?;
-    lines.push_str("\n")?;
+    push(lines, "    ")?;
+    push(lines, line)?;
+    push(lines, "\n")?;
     Ok(())
 }
 
 /// Adds the line of an event.
 pub fn push_event(lines: &mut String, line: &str) -> Result<(), NoMemory> {
-    lines.push_str(line)?;
-    lines.push_str("\n")?;
+    push(lines, line)?;
+    push(lines, "\n")?;
     Ok(())
 }
 
@@ -212,9 +274,9 @@ fn push_launch(text: &mut String, launch: &Launch) -> Result<(), NoMemory> {
 }
 
 fn push_variable(text: &mut String, pair: &Pair) -> Result<(), NoMemory> {
-    text.push_str("    ")?;
-    text.push_str(pair.name.as_str())?;
-    text.push_str("=")?;
+    push(text, "    ")?;
+    push(text, pair.name.as_str())?;
+    push(text, "=")?;
     push_event(text, pair.value.as_str())
 }
 
@@ -234,10 +296,11 @@ pub fn words_of_launches(alloc: Global, items: &[Item]) -> Result<String, NoMemo
     let mut text = String::new(alloc);
     for item in items {
         if let Item::Out(Act::Start { launch, .. }) = item {
-            text.push_str(launch.program.as_str())?;
+            push(&mut text, launch.program.as_str())?;
             for word in launch.args.as_slice() {
-                let word = format!(in alloc; " [{}]", word.as_str())?;
-                text.push_str(word.as_str())?;
+                push(&mut text, " [")?;
+                push(&mut text, word.as_str())?;
+                push(&mut text, "]")?;
             }
         }
     }

@@ -6,16 +6,17 @@ ghost use Rattle.host_base.specs.SiteRules.{IsServed};
 use super::drive::SITE;
 use super::lines::{lines_of, push_event};
 use super::play::Play;
-use super::script::size_of;
+use super::script::{begins, behind, cut, is, lines_in, named_rows, size_of};
 use host_base::{NoMemory, Site};
-use host_loop::{LoopEnd, serve_one};
-use host_serve::HostConn;
+use host_loop::LoopEnd;
+use host_serve::serve_all;
 use host_trace::Item;
 use memory_world::MemoryOutside;
 use site_file::read_site;
 use std::alloc::Global;
 use std::process::Abort;
 use std::test::Fail;
+use std::thread::Threads;
 
 // Runs of beats, of which the last is that in which all is over. Behind each stand, after `! `, after how many beats an event is
 // heard that doesn't fit there, and the event.
@@ -280,7 +281,7 @@ Stop
 
 // The beats, and after so many of them the other event, which nothing follows.
 fn put_in(play: &mut Play, beats: &str, misfit: &str) -> Result<(), NoMemory> {
-    let (at, event) = misfit.split_once(' ').unwrap_or((misfit, ""));
+    let (at, event) = cut(misfit, " ");
     play.front(RUNS, beats, size_of(at))?;
     play.hear_line(RUNS, event)?;
     play.back(RUNS, beats, size_of(at))
@@ -288,43 +289,58 @@ fn put_in(play: &mut Play, beats: &str, misfit: &str) -> Result<(), NoMemory> {
 
 fn are_lines(alloc: Global, items: &[Item], wanted: &str) -> Result<bool, NoMemory> {
     let lines = lines_of(alloc, items)?;
-    Ok(lines.as_str() == wanted)
+    Ok(is(lines.as_str(), wanted))
+}
+
+fn items_in(outs: &[MemoryOutside]) -> &[Item] {
+    match outs {
+        [out] => out.items(),
+        _ => &[],
+    }
 }
 
 // Whether an outside that hands up all of this is served.
-fn serves(site: &Site, play: Play) -> Result<bool, NoMemory>
+fn serves<R: Threads + Sync>(rt: &R, site: &Site, play: Play) -> Result<bool, NoMemory>
     requires { IsServed site.now }
 {
     let (alloc, events, refused, lines) = play.into_parts();
-    let mut out = MemoryOutside::wild(alloc, events, refused, site.limits.children)?;
-    let end = serve_one::<HostConn<'_>, MemoryOutside>(alloc, site, &mut out, 1 << 32);
-    let told = are_lines(alloc, out.items(), lines.as_str())?;
+    let out = MemoryOutside::wild(alloc, events, refused, site.limits.children)?;
+    let mut outs = vec![in alloc; out]?;
+    let end = serve_all(rt, alloc, site, &mut outs, 1 << 32);
+    let told = are_lines(alloc, items_in(outs.as_slice()), lines.as_str())?;
     Ok(told && end == LoopEnd::Done)
 }
 
 // The lines of a run that are beats.
 fn beats_of(alloc: Global, run: &str) -> Result<String, NoMemory> {
     let mut beats = String::new(alloc);
-    for line in run.lines() {
-        if !line.starts_with("! ") {
-            push_event(&mut beats, line)?;
+    let lines = lines_in(alloc, run)?;
+    for line in lines.as_slice() {
+        if !begins(*line, "! ") {
+            push_event(&mut beats, *line)?;
         }
     }
     Ok(beats)
 }
 
 // Whether nothing is done for a misfit among the beats.
-fn passes_by(alloc: Global, site: &Site, beats: &str, misfit: &str) -> Result<bool, NoMemory>
+fn passes_by<R: Threads + Sync>(
+    rt: &R,
+    alloc: Global,
+    site: &Site,
+    beats: &str,
+    misfit: &str,
+) -> Result<bool, NoMemory>
     requires { IsServed site.now }
 {
     let mut play = Play::new(alloc);
     put_in(&mut play, beats, misfit)?;
-    serves(site, play)
+    serves(rt, site, play)
 }
 
 // .. for any of those in these lines; how many they are.
-fn passes_by_all(
-    rt: &impl Abort,
+fn passes_by_all<R: Threads + Abort + Sync>(
+    rt: &R,
     alloc: Global,
     site: &Site,
     beats: &str,
@@ -333,9 +349,10 @@ fn passes_by_all(
     requires { IsServed site.now }
 {
     let mut count: usize = 0;
-    for line in run.lines() {
-        if let Some(misfit) = line.strip_prefix("! ") {
-            assert!(rt; passes_by(alloc, site, beats, misfit)?, "{misfit}");
+    let lines = lines_in(alloc, run)?;
+    for line in lines.as_slice() {
+        if let Some(misfit) = behind(*line, "! ") {
+            assert!(rt; passes_by(rt, alloc, site, beats, misfit)?, "{misfit}");
             count = count.saturating_add(1);
         }
     }
@@ -343,24 +360,28 @@ fn passes_by_all(
 }
 
 // .. for any of a run.
-fn passes(rt: &impl Abort, alloc: Global, site: &Site, row: &str) -> Result<usize, Fail>
+fn passes<R: Threads + Abort + Sync>(
+    rt: &R,
+    alloc: Global,
+    site: &Site,
+    row: &str,
+) -> Result<usize, Fail>
     requires { IsServed site.now }
 {
-    let (_, run) = row.split_once('\n').unwrap_or((row, ""));
+    let (_, run) = cut(row, "\n");
     let beats = beats_of(alloc, run)?;
     passes_by_all(rt, alloc, site, beats.as_str(), run)
 }
 
-fn pass(rt: &impl Abort, alloc: Global, site: &Site) -> Result<(), Fail>
+fn pass<R: Threads + Abort + Sync>(rt: &R, alloc: Global, site: &Site) -> Result<(), Fail>
     requires { IsServed site.now }
 {
-    let mut runs: usize = 0;
+    let runs = named_rows(alloc, RUNS)?;
     let mut misfits: usize = 0;
-    for row in RUNS.split("\n== ").skip(1) {
-        misfits = misfits.saturating_add(passes(rt, alloc, site, row)?);
-        runs = runs.saturating_add(1);
+    for row in runs.as_slice() {
+        misfits = misfits.saturating_add(passes(rt, alloc, site, *row)?);
     }
-    assert_eq!(rt; runs, 7);
+    assert_eq!(rt; runs.len(), 7);
     assert_eq!(rt; misfits, 150);
     Ok(())
 }

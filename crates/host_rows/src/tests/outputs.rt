@@ -1,6 +1,6 @@
 // The replies that outputs bring, over memory by the top call, however their bytes come.
 use super::pieces::{Part, Wanted, is_right_in_any, is_right_in_two, is_right_whole, repeated};
-use super::script::{bytes_of, column, count_of, is_row};
+use super::script::{bytes_of, column, halves, rows_of};
 use super::texts::{NO_OUTPUT, OUTPUT};
 use host_base::NoMemory;
 use std::alloc::Global;
@@ -113,14 +113,9 @@ Location: /none\n\n | $NO_SCRIPT
 Location: /none\nContent-Type: text/plain\n\nhi\n | $NO_SCRIPT
 "#;
 
-fn is_case<R: Threads + Sync>(
-    rt: &R,
-    alloc: Global,
-    table: &str,
-    case: &str,
-) -> Result<bool, NoMemory> {
-    let output = bytes_of(alloc, table, column(case, 0))?;
-    let reply = bytes_of(alloc, table, column(case, 1))?;
+fn is_case<R: Threads + Sync>(rt: &R, alloc: Global, case: &str) -> Result<bool, NoMemory> {
+    let output = bytes_of(alloc, OUTPUTS, column(case, 0))?;
+    let reply = bytes_of(alloc, OUTPUTS, column(case, 1))?;
     let wanted = Wanted::Served(reply.as_slice());
     is_right_in_any(rt, alloc, Part::Output, output.as_slice(), wanted)
 }
@@ -129,11 +124,11 @@ fn is_case<R: Threads + Sync>(
 fn wrong_case<R: Threads + Sync>(
     rt: &R,
     alloc: Global,
-    table: &'static str,
+    cases: &[&'static str],
 ) -> Result<&'static str, NoMemory> {
-    for case in table.lines() {
-        if is_row(case) && !is_case(rt, alloc, table, case)? {
-            return Ok(case);
+    for case in cases {
+        if !is_case(rt, alloc, *case)? {
+            return Ok(*case);
         }
     }
     Ok("")
@@ -141,9 +136,9 @@ fn wrong_case<R: Threads + Sync>(
 
 #[test]
 fn outputs_in_any_pieces(rt: HostRuntime) -> Result<(), Fail> {
-    let table = OUTPUTS;
-    assert_eq!(rt; count_of(table), 77);
-    assert_eq!(rt; wrong_case(&rt, rt.alloc(), table)?, "");
+    let cases = rows_of(rt.alloc(), OUTPUTS)?;
+    assert_eq!(rt; cases.len(), 77);
+    assert_eq!(rt; wrong_case(&rt, rt.alloc(), cases.as_slice())?, "");
     Ok(())
 }
 
@@ -169,7 +164,7 @@ fn reply_to(alloc: Global, front: &[u8]) -> Result<Vec<u8>, NoMemory> {
     } else if front.len() < 26 {
         Ok(Vec::from_slice(alloc, INCOMPLETE)?)
     } else {
-        let (_, body) = front.split_at(26);
+        let (_, body) = halves(front, 26);
         reply_with(alloc, body)
     }
 }
@@ -184,7 +179,7 @@ fn is_cut_off<R: Threads + Sync>(rt: &R, alloc: Global, front: &[u8]) -> Result<
 #[test]
 fn an_output_that_is_cut_off(rt: HostRuntime) -> Result<(), Fail> {
     for count in 0..OUTPUT.len() {
-        let (front, _) = OUTPUT.split_at(count);
+        let (front, _) = halves(OUTPUT, count);
         assert!(rt; is_cut_off(&rt, rt.alloc(), front)?, "{count} bytes");
     }
     Ok(())

@@ -1,12 +1,11 @@
 // Exchanges whose request or output comes in pieces: whatever the pieces are, the same is to come of them.
 ghost use Rattle.std.specs.Prelude.{◌<◌, length};
 
-use super::drive::{Heard, runs, world_of};
+use super::drive::{Heard, is_done, runs, world_of};
 use super::lines::{given, shown};
-use super::script::bytes_of;
+use super::script::{bytes_of, cut, halves, same, single_bytes};
 use super::texts::{OUTPUT, REQUEST};
 use host_base::NoMemory;
-use host_run::Status;
 use host_trace::{Act, Item, Why};
 use memory_world::MemoryWorld;
 use std::alloc::Global;
@@ -41,7 +40,7 @@ pub struct Due {
 impl Due {
     pub fn wanted(&self) -> Wanted<'_> {
         let text = shown(self.text.as_slice());
-        let (word, reply) = text.split_once(' ').unwrap_or((text, ""));
+        let (word, reply) = cut(text, " ");
         let reply = reply.as_bytes();
         match word {
             "Nothing" => Wanted::Nothing,
@@ -89,7 +88,7 @@ fn outcome_of(alloc: Global, items: &[Item]) -> Result<Outcome, NoMemory> {
 }
 
 fn is(outcome: &Outcome, reply: &[u8], starts: usize, why: Why) -> bool {
-    outcome.written.as_slice() == reply
+    same(outcome.written.as_slice(), reply)
         && outcome.starts == starts
         && outcome.shuts.as_slice() == [why].as_slice()
 }
@@ -169,7 +168,7 @@ fn is_right<R: Threads + Sync>(
 ) -> Result<bool, NoMemory> {
     let mut world = world_in(alloc, part, pieces)?;
     let status = runs(rt, alloc, &WORDS, &mut world)?;
-    Ok(matches!(status, Status::Done) && come_to(alloc, given(&world), wanted)?)
+    Ok(is_done(&status) && come_to(alloc, given(&world), wanted)?)
 }
 
 /// Whether it comes of a part that comes whole.
@@ -191,10 +190,7 @@ pub fn is_right_singly<R: Threads + Sync>(
     text: &[u8],
     wanted: Wanted,
 ) -> Result<bool, NoMemory> {
-    let mut pieces = Vec::new(alloc);
-    for piece in text.chunks(1) {
-        pieces.push(piece)?;
-    }
+    let pieces = single_bytes(alloc, text)?;
     is_right(rt, alloc, part, pieces.as_slice(), wanted)
 }
 
@@ -215,7 +211,8 @@ pub fn is_right_in_two<R: Threads + Sync>(
     wanted: Wanted,
 ) -> Result<bool, NoMemory> {
     for at in 1..text.len() {
-        if is_cut(text, at) && !is_right(rt, alloc, part, &[&text[..at], &text[at..]], wanted)? {
+        let (front, back) = halves(text, at);
+        if is_cut(text, at) && !is_right(rt, alloc, part, &[front, back], wanted)? {
             return Ok(false);
         }
     }

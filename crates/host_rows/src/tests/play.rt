@@ -1,7 +1,10 @@
 // Worked rows: what is heard, and the acts that are to follow each event.
-use super::drive::{Heard, count_of, event_of, limit_of, runs, world_with};
+use super::drive::{Heard, count_of, event_of, limit_of, outside_with, runs, world_in};
 use super::lines::{event_line, numbered, push_act, push_event, shown, told};
-use super::script::{beats_named, bytes_of, heard_of, is_event, words_of};
+use super::script::{
+    beats_named, behind, bytes_of, cut, heard_in, is, is_event, lines_in, named_rows, parts,
+    single_bytes,
+};
 use host_base::NoMemory;
 use host_run::Status;
 use host_trace::{Event, Events};
@@ -51,7 +54,7 @@ impl Play {
 
     /// This act follows.
     pub fn follow(&mut self, act: &str) -> Result<(), NoMemory> {
-        if act == NO_ROOM {
+        if is(act, NO_ROOM) {
             self.refused.push(self.acts)?;
         } else {
             push_act(&mut self.lines, act)?;
@@ -83,8 +86,9 @@ impl Play {
 
     /// The event of a line of this table is heard.
     pub fn hear_line(&mut self, table: &str, line: &str) -> Result<(), NoMemory> {
-        let words = words_of(self.alloc, table, line)?;
-        match heard_of(&words) {
+        let (_, _, text) = parts(line);
+        let bytes = bytes_of(self.alloc, table, text)?;
+        match heard_in(line, bytes.as_slice()) {
             Some(heard) => self.hear(heard),
             None => push_event(&mut self.lines, "no event of this name"),
         }
@@ -92,7 +96,7 @@ impl Play {
 
     // The event or the act of a line of this table.
     fn line(&mut self, table: &str, line: &str) -> Result<(), NoMemory> {
-        if let Some(act) = line.strip_prefix("    ") {
+        if let Some(act) = behind(line, "    ") {
             let bytes = bytes_of(self.alloc, table, act)?;
             self.follow(shown(bytes.as_slice()))
         } else if is_event(line) {
@@ -102,48 +106,49 @@ impl Play {
         }
     }
 
-    /// The beats of this name.
-    pub fn beats(&mut self, name: &str) -> Result<(), NoMemory> {
-        for line in beats_named(name).lines() {
-            self.line("", line)?;
+    // The first ones of these beats of a table, so many, or the others.
+    fn some(
+        &mut self,
+        table: &str,
+        beats: &str,
+        count: usize,
+        others: bool,
+    ) -> Result<(), NoMemory> {
+        let mut heard: usize = 0;
+        let lines = lines_in(self.alloc, beats)?;
+        for line in lines.as_slice() {
+            if is_event(*line) {
+                heard = heard.saturating_add(1);
+            }
+            if (heard > count) == others {
+                self.line(table, *line)?;
+            }
         }
         Ok(())
+    }
+
+    /// The beats of this name.
+    pub fn beats(&mut self, name: &str) -> Result<(), NoMemory> {
+        self.some("", beats_named(name), usize::MAX, false)
     }
 
     /// The first ones of these beats of a table.
     pub fn front(&mut self, table: &str, beats: &str, count: usize) -> Result<(), NoMemory> {
-        let mut heard: usize = 0;
-        for line in beats.lines() {
-            if is_event(line) {
-                heard = heard.saturating_add(1);
-            }
-            if heard <= count {
-                self.line(table, line)?;
-            }
-        }
-        Ok(())
+        self.some(table, beats, count, false)
     }
 
     /// The others.
     pub fn back(&mut self, table: &str, beats: &str, count: usize) -> Result<(), NoMemory> {
-        let mut heard: usize = 0;
-        for line in beats.lines() {
-            if is_event(line) {
-                heard = heard.saturating_add(1);
-            }
-            if heard > count {
-                self.line(table, line)?;
-            }
-        }
-        Ok(())
+        self.some(table, beats, count, true)
     }
 
     /// These lines of a table, in which beats may stand by their name.
     pub fn script(&mut self, table: &str, lines: &str) -> Result<(), NoMemory> {
-        for line in lines.lines() {
-            match line.strip_prefix("+ ") {
+        let lines = lines_in(self.alloc, lines)?;
+        for line in lines.as_slice() {
+            match behind(*line, "+ ") {
                 Some(name) => self.beats(name)?,
-                None => self.line(table, line)?,
+                None => self.line(table, *line)?,
             }
         }
         Ok(())
@@ -151,8 +156,9 @@ impl Play {
 
     /// A client's bytes come one by one, and more is asked for after each.
     pub fn client_singly(&mut self, c: u64, bytes: &[u8]) -> Result<(), NoMemory> {
-        for piece in bytes.chunks(1) {
-            self.beat(Heard::Client(c, piece), &[])?;
+        let pieces = single_bytes(self.alloc, bytes)?;
+        for piece in pieces.as_slice() {
+            self.beat(Heard::Client(c, *piece), &[])?;
             self.follow_for("WantClient", c)?;
         }
         Ok(())
@@ -160,8 +166,9 @@ impl Play {
 
     /// An output's bytes come one by one, and more is asked for after each.
     pub fn output_singly(&mut self, k: u64, bytes: &[u8]) -> Result<(), NoMemory> {
-        for piece in bytes.chunks(1) {
-            self.beat(Heard::Output(k, piece), &[])?;
+        let pieces = single_bytes(self.alloc, bytes)?;
+        for piece in pieces.as_slice() {
+            self.beat(Heard::Output(k, *piece), &[])?;
             self.follow_for("WantChild", k)?;
         }
         Ok(())
@@ -185,7 +192,7 @@ impl Play {
 
     /// How many items its trace may have.
     fn room(&self) -> usize {
-        let acts = usize::try_from(self.acts).unwrap_or(0);
+        let acts = self.acts as usize;
         self.events.len().saturating_add(acts).saturating_add(64)
     }
 }
@@ -194,8 +201,8 @@ impl Play {
 fn world_for(play: Play, limit: u32) -> Result<(MemoryWorld, String), NoMemory> {
     let room = play.room();
     let (alloc, events, refused, lines) = play.into_parts();
-    let world = world_with(alloc, events, refused, room, limit)?;
-    Ok((world, lines))
+    let out = outside_with(alloc, events, refused, room, limit)?;
+    Ok((world_in(alloc, out)?, lines))
 }
 
 // The lines of the one trace of such a run; a text that is no trace where it doesn't end with Done.
@@ -236,7 +243,7 @@ fn has_row<R: Threads + Abort + Sync>(
     table: &str,
     row: &str,
 ) -> Result<(), Fail> {
-    let (name, lines) = row.split_once('\n').unwrap_or((row, ""));
+    let (name, lines) = cut(row, "\n");
     let mut play = Play::new(alloc);
     play.script(table, lines)?;
     plays(rt, task, site, name, play)
@@ -251,11 +258,10 @@ pub fn has_rows<R: Threads + Abort + Sync>(
     table: &str,
     count: usize,
 ) -> Result<(), Fail> {
-    let mut rows: usize = 0;
-    for row in table.split("\n== ").skip(1) {
-        has_row(rt, alloc, task, site, table, row)?;
-        rows = rows.saturating_add(1);
+    let rows = named_rows(alloc, table)?;
+    for row in rows.as_slice() {
+        has_row(rt, alloc, task, site, table, *row)?;
     }
-    assert_eq!(rt; rows, count);
+    assert_eq!(rt; rows.len(), count);
     Ok(())
 }

@@ -1,5 +1,6 @@
 // What comes of outputs and of children, on one connection, act for act.
 use super::drive::Heard::{Accepted, Client, Exited, Output, OutputEof, Started, Stop};
+use super::lines::start_line;
 use super::play::{Play, has_rows, plays};
 use super::texts::{REQUEST, START};
 use host_base::NoMemory;
@@ -432,16 +433,16 @@ fn redirect(play: &mut Play, k: u64) -> Result<(), NoMemory> {
 }
 
 // Child k is followed by the next.
-fn hop(play: &mut Play, k: u64, next: u64) -> Result<(), NoMemory> {
-    redirect(play, k)?;
-    play.beat(Exited(k), &[])?;
+fn hop(play: &mut Play, k: u32, next: u32) -> Result<(), NoMemory> {
+    redirect(play, u64::from(k))?;
+    play.beat(Exited(u64::from(k)), &[])?;
     let alloc = play.alloc();
-    let start = format!(in alloc; "Start {next} (0, 0, {next}) /srv/cgi/hello")?;
+    let start = start_line(alloc, u64::from(next), (0, 0, next), "/srv/cgi/hello")?;
     play.follow(start.as_str())
 }
 
 fn hops(play: &mut Play) -> Result<(), NoMemory> {
-    for k in 0..10u64 {
+    for k in 0..10u32 {
         hop(play, k, k + 1)?;
     }
     Ok(())

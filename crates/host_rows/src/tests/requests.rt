@@ -1,7 +1,7 @@
 // How requests come and are refused, on one connection, act for act.
 use super::drive::Heard::{Accepted, Client, OutputEof, Started};
 use super::play::{Play, has_rows, plays};
-use super::script::row_named;
+use super::script::{halves, row_named};
 use super::texts::{OUTPUT, REQUEST, START, WRITE_REPLY};
 use host_base::NoMemory;
 use std::test::Fail;
@@ -396,7 +396,7 @@ fn a_long_body_is_fed_as_it_comes(rt: HostRuntime) -> Result<(), Fail> {
 
 // The client's bytes and the output's come one by one.
 fn singly(play: &mut Play) -> Result<(), NoMemory> {
-    let (front, last) = REQUEST.split_at(REQUEST.len() - 1);
+    let (front, last) = halves(REQUEST, REQUEST.len() - 1);
     play.beat(Accepted, &["WantClient 0"])?;
     play.client_singly(0, front)?;
     play.beat(Client(0, last), &[START])?;

@@ -1,7 +1,7 @@
 // The words of the top call, its statuses, and what it enters a world for.
-use super::drive::{Heard, WORDS, runs, world_of};
+use super::drive::{FIRST, Heard, WORDS, is_done, is_spent, no_world, runs, world_of};
 use super::lines::told;
-use super::texts::{OUTPUT, REQUEST};
+use super::script::{has, is};
 use host_base::{NoMemory, Site};
 use host_run::Status;
 use host_trace::{Item, Mode};
@@ -9,16 +9,6 @@ use memory_world::MemoryWorld;
 use std::alloc::Global;
 use std::test::Fail;
 use std::thread::Threads;
-
-// The exchange of the first reply.
-const FIRST: [Heard<'static>; 6] = [
-    Heard::Accepted,
-    Heard::Client(0, REQUEST),
-    Heard::Started(0),
-    Heard::Output(0, OUTPUT),
-    Heard::OutputEof(0),
-    Heard::Exited(0),
-];
 
 // ---- words and statuses
 
@@ -86,15 +76,15 @@ fn a_program_may_have_an_equals_sign(rt: HostRuntime) -> Result<(), Fail> {
         &["once", "/cgi-bin/hello=/srv/a=b"],
         &mut world,
     )?;
-    assert!(rt; matches!(status, Status::Done));
+    assert!(rt; is_done(&status));
     let told = told(rt.alloc(), &world)?;
-    assert!(rt; told.as_str().contains("Start 0 (0, 0, 0) /srv/a=b\n"));
+    assert!(rt; has(told.as_str(), "Start 0 (0, 0, 0) /srv/a=b\n"));
     Ok(())
 }
 
 #[test]
 fn a_world_that_refuses(rt: HostRuntime) -> Result<(), Fail> {
-    let mut world = MemoryWorld::new(rt.alloc(), Vec::new(rt.alloc()));
+    let mut world = no_world(rt.alloc());
     let status = runs(&rt, rt.alloc(), &WORDS, &mut world)?;
     let refused = matches!(status, Status::WorldRefused);
     assert!(rt; refused && world.faults() == 1 && world.given().is_empty());
@@ -106,7 +96,7 @@ fn a_world_that_refuses(rt: HostRuntime) -> Result<(), Fail> {
 fn has_script(site: &Site, path: &str) -> bool {
     for host in site.hosts.as_slice() {
         for script in host.scripts.as_slice() {
-            if script.path.as_str() == path {
+            if is(script.path.as_str(), path) {
                 return true;
             }
         }
@@ -131,7 +121,7 @@ fn is_entered_for(world: &MemoryWorld, path: &str) -> bool {
 fn a_world_is_entered_for_one_connection(rt: HostRuntime) -> Result<(), Fail> {
     let mut world = world_of(rt.alloc(), &FIRST)?;
     let status = runs(&rt, rt.alloc(), &WORDS, &mut world)?;
-    let done = matches!(status, Status::Done);
+    let done = is_done(&status);
     assert!(rt; done && is_entered_for(&world, "/cgi-bin/hello"));
     Ok(())
 }
@@ -166,7 +156,7 @@ fn are_spent<R: Threads + Sync>(
     let mut world = world_of(alloc, &heard)?;
     let words = ["serve", "/cgi-bin/hello=/srv/cgi/hello", "--turns", turns];
     let status = runs(rt, alloc, &words, &mut world)?;
-    Ok(matches!(status, Status::Spent) && has_served(&world, events))
+    Ok(is_spent(&status) && has_served(&world, events))
 }
 
 #[test]

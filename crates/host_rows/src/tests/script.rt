@@ -13,12 +13,34 @@ use std::alloc::Global;
 
 // ---- bytes
 
-// The value of a digit of base 16; 255 for another byte.
+pub fn same(bytes: &[u8], others: &[u8]) -> bool {
+    bytes == others
+}
+
+/// The first ones of some bytes, so many, and the others.
+pub fn halves(bytes: &[u8], count: usize) -> (&[u8], &[u8]) {
+    if count <= bytes.len() {
+        bytes.split_at(count)
+    } else {
+        (bytes, b"")
+    }
+}
+
+/// Each byte by itself.
+pub fn single_bytes(alloc: Global, bytes: &[u8]) -> Result<Vec<&[u8]>, NoMemory> {
+    let mut pieces = Vec::new(alloc);
+    for piece in bytes.chunks(1) {
+        pieces.push(piece)?;
+    }
+    Ok(pieces)
+}
+
+// The value of a digit of base 16.
 fn digit(byte: u8) -> u8 {
-    match byte {
-        b'0'..=b'9' => byte - b'0',
-        b'a'..=b'f' => byte - b'a' + 10,
-        _ => 255,
+    if byte < b'a' {
+        byte.wrapping_sub(b'0')
+    } else {
+        byte.wrapping_sub(b'a').wrapping_add(10)
     }
 }
 
@@ -66,13 +88,41 @@ fn unescaped(alloc: Global, text: &str) -> Result<Vec<u8>, NoMemory> {
 
 // ---- names
 
-// The text of a line `NAME = TEXT` of a table.
-fn text_of<'t>(table: &'t str, name: &str) -> Option<&'t str> {
+pub fn is(text: &str, other: &str) -> bool {
+    text == other
+}
+
+/// What stands in a text before this mark, and behind it; nothing behind where the mark isn't there.
+pub fn cut<'t>(text: &'t str, mark: &str) -> (&'t str, &'t str) {
+    text.split_once(mark).unwrap_or((text, ""))
+}
+
+/// Whether a part stands in a text.
+pub fn has(text: &str, part: &str) -> bool {
+    let (before, _) = cut(text, part);
+    before.len() < text.len()
+}
+
+/// What stands behind this mark, with which a text begins.
+pub fn behind<'t>(text: &'t str, mark: &str) -> Option<&'t str> {
+    text.strip_prefix(mark)
+}
+
+/// The lines of a text.
+pub fn lines_in(alloc: Global, text: &str) -> Result<Vec<&str>, NoMemory> {
+    let mut lines = Vec::new(alloc);
+    for line in text.lines() {
+        lines.push(line)?;
+    }
+    Ok(lines)
+}
+
+/// What stands behind a name and this mark in a line of a table.
+pub fn text_of<'t>(table: &'t str, name: &str, mark: &str) -> Option<&'t str> {
     for line in table.lines() {
-        if let Some((first, text)) = line.split_once(" = ") {
-            if first == name {
-                return Some(text);
-            }
+        let (first, text) = cut(line, mark);
+        if is(first, name) {
+            return Some(text);
         }
     }
     None
@@ -109,22 +159,34 @@ fn bytes_named(name: &str) -> &'static [u8] {
 
 /// The bytes of a text of a table.
 pub fn bytes_of(alloc: Global, table: &str, text: &str) -> Result<Vec<u8>, NoMemory> {
-    match text.strip_prefix("$") {
+    match behind(text, "$") {
         None => unescaped(alloc, text),
-        Some(name) => match text_of(table, name) {
+        Some(name) => match text_of(table, name, " = ") {
             Some(text) => unescaped(alloc, text),
             None => Ok(Vec::from_slice(alloc, bytes_named(name))?),
         },
     }
 }
 
+/// The rows of a table that begin with a name, each from its name on.
+pub fn named_rows(alloc: Global, table: &str) -> Result<Vec<&str>, NoMemory> {
+    let mut rows = Vec::new(alloc);
+    let mut first = true;
+    for row in table.split("\n== ") {
+        if !first {
+            rows.push(row)?;
+        }
+        first = false;
+    }
+    Ok(rows)
+}
+
 /// The lines of the row of this name; none where there is no such row.
 pub fn row_named<'t>(table: &'t str, name: &str) -> &'t str {
     for row in table.split("\n== ") {
-        if let Some((first, lines)) = row.split_once('\n') {
-            if first == name {
-                return lines;
-            }
+        let (first, lines) = cut(row, "\n");
+        if is(first, name) {
+            return lines;
         }
     }
     ""
@@ -137,10 +199,12 @@ pub fn beats_named(name: &str) -> &'static str {
 
 /// The column of a row at this place, without the blanks round it.
 pub fn column(row: &str, place: usize) -> &str {
-    for (at, text) in row.split('|').enumerate() {
+    let mut at: usize = 0;
+    for text in row.split('|') {
         if at == place {
             return text.trim();
         }
+        at = at.saturating_add(1);
     }
     ""
 }
@@ -149,81 +213,82 @@ pub fn size_of(text: &str) -> usize {
     text.parse::<usize>().unwrap_or(usize::MAX)
 }
 
-/// Whether it is a row of a table of columns, and no comment and no text.
-pub fn is_row(line: &str) -> bool {
-    line.contains("|") && !line.starts_with("//")
+/// Whether a text begins with this mark.
+pub fn begins(text: &str, mark: &str) -> bool {
+    match behind(text, mark) {
+        Some(_) => true,
+        None => false,
+    }
 }
 
-/// How many rows a table of columns has.
-pub fn count_of(table: &str) -> usize {
-    let mut count: usize = 0;
-    for line in table.lines() {
-        if is_row(line) {
-            count = count.saturating_add(1);
+// Whether it is a row of a table of columns, and no comment and no text.
+fn is_row(line: &str) -> bool {
+    has(line, "|") && !begins(line, "//")
+}
+
+/// The rows of a table of columns.
+pub fn rows_of(alloc: Global, table: &str) -> Result<Vec<&str>, NoMemory> {
+    let lines = lines_in(alloc, table)?;
+    let mut rows = Vec::new(alloc);
+    for line in lines.as_slice() {
+        if is_row(*line) {
+            rows.push(*line)?;
         }
     }
-    count
+    Ok(rows)
 }
 
 /// Whether an event stands in a line.
 pub fn is_event(line: &str) -> bool {
-    !line.is_empty() && !line.starts_with(' ') && !line.starts_with("//")
+    !line.is_empty() && !begins(line, " ") && !begins(line, "//")
 }
 
 // ---- events
-
-/// An event in words: its name, the number of its connection or child, and what it brings.
-#[derive(Drop)]
-pub struct Words<'t> {
-    pub name: &'t str,
-    pub number: u64,
-    pub count: u64,
-    pub bytes: Vec<u8>,
-}
 
 fn number_of(text: &str) -> u64 {
     text.parse::<u64>().unwrap_or(0)
 }
 
-pub fn words_of<'t>(alloc: Global, table: &str, line: &'t str) -> Result<Words<'t>, NoMemory> {
-    let (name, rest) = line.split_once(' ').unwrap_or((line, ""));
-    let (number, text) = rest.split_once(' ').unwrap_or((rest, ""));
-    Ok(Words {
-        name,
-        number: number_of(number),
-        count: number_of(text),
-        bytes: bytes_of(alloc, table, text)?,
-    })
+/// The three parts of an event in words: its name, the number of its connection or child, and what it brings.
+pub fn parts(text: &str) -> (&str, &str, &str) {
+    let (name, rest) = cut(text, " ");
+    let (number, brought) = cut(rest, " ");
+    (name, number, brought)
 }
 
-fn of_child<'t>(words: &'t Words) -> Option<Heard<'t>> {
-    let k = words.number;
-    Some(match words.name {
+/// The numbers of an event or act in words, and its name.
+pub fn numbers_in(text: &str) -> (&str, u64, u64) {
+    let (name, number, count) = parts(text);
+    (name, number_of(number), number_of(count))
+}
+
+fn of_child<'t>(name: &str, k: u64, count: u64, bytes: &'t [u8]) -> Option<Heard<'t>> {
+    Some(match name {
         "Started" => Heard::Started(k),
         "StartFailed" => Heard::StartFailed(k),
-        "StartFull" => Heard::StartFull(k, u32::try_from(words.count).ok()?),
-        "Output" => Heard::Output(k, words.bytes.as_slice()),
-        "OutputFill" => Heard::OutputFill(k, words.count as usize),
-        "OutputLong" => Heard::OutputLong(k, words.count as usize),
-        "OutputEof" => Heard::OutputEof(k),
-        "Broken" => Heard::Broken(k),
-        "Took" => Heard::Took(k, words.count),
+        "StartFull" => Heard::StartFull(k, u32::try_from(count).ok()?),
+        "Output" => Heard::Output(k, bytes),
+        "OutputFill" | "ChildBytes" => Heard::OutputFill(k, count as usize),
+        "OutputLong" => Heard::OutputLong(k, count as usize),
+        "OutputEof" | "ChildEof" => Heard::OutputEof(k),
+        "Broken" | "ChildBroken" => Heard::Broken(k),
+        "Took" => Heard::Took(k, count),
         "InputGone" => Heard::InputGone(k),
         "Exited" => Heard::Exited(k),
         _ => return None,
     })
 }
 
-fn of_client<'t>(words: &'t Words) -> Option<Heard<'t>> {
-    let c = words.number;
-    Some(match words.name {
+fn of_client<'t>(name: &str, c: u64, count: u64, bytes: &'t [u8]) -> Option<Heard<'t>> {
+    Some(match name {
         "Accepted" => Heard::Accepted,
-        "Client" => Heard::Client(c, words.bytes.as_slice()),
-        "ClientFill" => Heard::ClientFill(c, words.count as usize),
+        "Client" => Heard::Client(c, bytes),
+        "ClientFill" | "ClientBytes" => Heard::ClientFill(c, count as usize),
         "ClientEof" => Heard::ClientEof(c),
-        "Gone" => Heard::Gone(c),
+        "Gone" | "ClientGone" => Heard::Gone(c),
         "NoRoom" => Heard::NoRoom(c),
-        "Wrote" => Heard::Wrote(c, words.count),
+        "Wrote" => Heard::Wrote(c, count),
+        "Tick" => Heard::Tick,
         "TickAt" => Heard::TickAt(c),
         "Ticks" => Heard::Ticks(u32::try_from(c).ok()?),
         "Stop" => Heard::Stop,
@@ -231,11 +296,10 @@ fn of_client<'t>(words: &'t Words) -> Option<Heard<'t>> {
     })
 }
 
-fn of_talk<'t>(words: &'t Words) -> Option<Heard<'t>> {
-    let c = words.number;
-    Some(match words.name {
-        "WsText" => Heard::WsText(c, words.bytes.as_slice()),
-        "WsFill" => Heard::WsFill(c, words.count as usize),
+fn of_talk<'t>(name: &str, c: u64, count: u64, bytes: &'t [u8]) -> Option<Heard<'t>> {
+    Some(match name {
+        "WsText" => Heard::WsText(c, bytes),
+        "WsFill" => Heard::WsFill(c, count as usize),
         "WsBinary" => Heard::WsBinary(c),
         "WsClosed" => Heard::WsClosed(c),
         "WsBad" => Heard::WsBad(c),
@@ -243,13 +307,27 @@ fn of_talk<'t>(words: &'t Words) -> Option<Heard<'t>> {
     })
 }
 
-/// The event of these words; none where no event has this name.
-pub fn heard_of<'t>(words: &'t Words) -> Option<Heard<'t>> {
-    match of_child(words) {
+// The event of this name, of this connection or child, which brings so many or these bytes; none where no event has this
+// name.
+fn heard_of<'t>(name: &str, number: u64, count: u64, bytes: &'t [u8]) -> Option<Heard<'t>> {
+    match of_child(name, number, count, bytes) {
         Some(heard) => Some(heard),
-        None => match of_client(words) {
+        None => match of_client(name, number, count, bytes) {
             Some(heard) => Some(heard),
-            None => of_talk(words),
+            None => of_talk(name, number, count, bytes),
         },
     }
+}
+
+/// The event of a line, which brings these bytes.
+pub fn heard_in<'t>(line: &str, bytes: &'t [u8]) -> Option<Heard<'t>> {
+    let (name, number, count) = numbers_in(line);
+    heard_of(name, number, count, bytes)
+}
+
+/// The event of a text in which of bytes only the number stands.
+pub fn counted_in(text: &str) -> Option<Heard<'static>> {
+    let (name, number, count) = numbers_in(text);
+    let name = if is(name, "WsText") { "WsFill" } else { name };
+    heard_of(name, number, count, b"")
 }

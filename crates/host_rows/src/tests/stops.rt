@@ -2,7 +2,7 @@
 // first that finds no room: whole traces.
 use super::drive::Heard::Stop;
 use super::play::{Play, has_rows, plays};
-use super::script::{beats_named, size_of};
+use super::script::{beats_named, cut, named_rows, size_of};
 use host_base::NoMemory;
 use std::alloc::Global;
 use std::process::Abort;
@@ -197,8 +197,8 @@ Stop
 ";
 
 // A front of the beats of this name, and the end, which begins with how many they are.
-fn cut(play: &mut Play, beats: &str, table: &str, end: &str) -> Result<(), NoMemory> {
-    let (count, lines) = end.split_once('\n').unwrap_or((end, ""));
+fn cut_off(play: &mut Play, beats: &str, table: &str, end: &str) -> Result<(), NoMemory> {
+    let (count, lines) = cut(end, "\n");
     play.front("", beats_named(beats), size_of(count))?;
     play.script(table, lines)
 }
@@ -211,7 +211,7 @@ fn has_end<R: Threads + Abort + Sync>(
     end: &str,
 ) -> Result<(), Fail> {
     let mut play = Play::new(alloc);
-    cut(&mut play, beats, ends, end)?;
+    cut_off(&mut play, beats, ends, end)?;
     plays(rt, "once", "site", beats, play)
 }
 
@@ -223,12 +223,11 @@ fn has_ends<R: Threads + Abort + Sync>(
     ends: &str,
     count: usize,
 ) -> Result<(), Fail> {
-    let mut rows: usize = 0;
-    for end in ends.split("\n== ").skip(1) {
-        has_end(rt, alloc, beats, ends, end)?;
-        rows = rows.saturating_add(1);
+    let rows = named_rows(alloc, ends)?;
+    for end in rows.as_slice() {
+        has_end(rt, alloc, beats, ends, *end)?;
     }
-    assert_eq!(rt; rows, count);
+    assert_eq!(rt; rows.len(), count);
     Ok(())
 }
 

@@ -2,6 +2,7 @@
 // lines and texts at a limit of four bytes, acts that find no room, and a long talk.
 use super::drive::Heard::{Accepted, Client, Output, Started};
 use super::play::{Play, has_rows, plays};
+use super::script::halves;
 use host_base::NoMemory;
 use std::test::Fail;
 
@@ -194,7 +195,7 @@ fn acts_of_a_talk_that_find_no_room(rt: HostRuntime) -> Result<(), Fail> {
 
 // A handshake in single bytes, and more output than a script may print that speaks no WebSocket.
 fn talk_long(play: &mut Play) -> Result<(), NoMemory> {
-    let (front, last) = HANDSHAKE.split_at(HANDSHAKE.len() - 1);
+    let (front, last) = halves(HANDSHAKE, HANDSHAKE.len() - 1);
     play.beat(Accepted, &["WantClient 0"])?;
     play.client_singly(0, front)?;
     play.beat(Client(0, last), &[SWITCHED, UPGRADED, START_LINES])?;

@@ -1,6 +1,0 @@
-use Rattle.std.proofs.Common.{take}
-use Rattle.head_lines.specs.Lines.{IsSearched}
-use Rattle.base_rows.proofs.tests.lines.is_found_by_bytes.Given as goal
-
-abbrev pub invariant-loop-count : goal.invariant-loop-count
-invariant-loop-count l = IsSearched (take l.count-counter l.text) l.search.start l.search.seen

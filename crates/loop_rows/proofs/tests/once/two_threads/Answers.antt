@@ -1,7 +1,0 @@
-use denote.Param.Send.{sendable}
-use Rattle.std.proofs.Crossing.{crosses}
-use Rattle.pump_pool.proofs.Crosses.{out_job_send}
-use Rattle.loop_rows.proofs.tests.once.two_threads.Goals as goal
-
-pub start-requires-send-J : goal.start-requires-send-J
-start-requires-send-J g c κs within = search (sendable, crosses, out_job_send) depth 20

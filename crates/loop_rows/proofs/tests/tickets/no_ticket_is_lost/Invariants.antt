@@ -1,4 +1,0 @@
-use Rattle.loop_rows.proofs.tests.tickets.no_ticket_is_lost.Given as goal
-
-abbrev pub ghosts-run_children : goal.ghosts-run_children
-ghosts-run_children g a = record { name = a.blank.name; parts = a.blank.parts }
