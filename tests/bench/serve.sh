@@ -1,14 +1,17 @@
 #!/usr/bin/env bash
-# Prints how fast the built server is, side by side in one run with lighttpd and its mod_cgi where that is installed, and
-# with a bare loop of spawn, read to the end and wait, which has no network and as many threads as there are clients:
-# small static programs a second for 1, 8 and 64 clients, on a new connection each and on kept ones; MB/s of replies of
-# 8 MiB, and of 1 MiB sent and echoed; how late the lines of a program are at the client once its reply has begun; and
-# messages a second to /bin/cat and back, over 1 and 50 WebSockets, beside websocketd where that is installed.
+# Prints how fast the built server is, side by side in one run with lighttpd and its mod_cgi where that is installed, with
+# the least server that there can be, and with a bare loop of spawn, read to the end and wait, which has no network and as
+# many threads as there are clients: small static programs a second for 1, 8 and 64 clients, on a new connection each and
+# on kept ones; MB/s of replies of 8 MiB, and of 1 MiB sent and echoed; how late the lines of a program are at the client
+# once its reply has begun; and messages a second to /bin/cat and back, over 1 and 50 WebSockets, beside websocketd where
+# that is installed.
 #
-# The aims: 1.4 times lighttpd with one loop and 1.8 with four; 0.75 of the bare loop for 8 clients on kept connections
-# with four; 0.5 of the bare copy for uploads; 2 ms for a line; as many messages over one WebSocket as websocketd. A number
-# of a busy machine says little. Each is measured
-# for SECONDS seconds (3), one after the other, in ROUNDS rounds (3), of which the median counts.
+# The aims: 1.4 times lighttpd with one loop and 1.8 with four, in the mean over the six rows of small programs, which is
+# printed behind them; 0.75 of the bare loop for 8 clients on kept connections with four; 0.5 of the bare copy for uploads;
+# 2 ms for a line; as many messages over one WebSocket as websocketd. The least server says how much of an aim there is to
+# be had: it has a thread for each of 64 connections, which does nothing but accept, read, spawn, read, wait and write, and
+# checks nothing. A number of a busy machine says little. Each is measured for SECONDS_EACH seconds (3), one after the
+# other, in ROUNDS rounds (3), of which the median counts.
 . "$(dirname "$0")/../common.sh"
 . "$root/tests/server.sh"
 for tool in wrk cc; do
@@ -116,6 +119,78 @@ int main(int count, char **words) {
     printf("%.1f\n", total / seconds);
 }
 END
+# The least server: 64 threads at PORT, each of which accepts, reads a request, spawns PROGRAM, reads its output to the end,
+# waits for it and writes a reply.
+cat >least.c <<'END'
+#define _GNU_SOURCE
+#include <arpa/inet.h>
+#include <fcntl.h>
+#include <netinet/tcp.h>
+#include <pthread.h>
+#include <spawn.h>
+#include <stdio.h>
+#include <stdlib.h>
+#include <string.h>
+#include <sys/socket.h>
+#include <sys/wait.h>
+#include <unistd.h>
+static char *program;
+static int listener;
+static void answer(int it, int closes) {
+    char out[8192], head[256];
+    char *words[] = {program, NULL}, *variables[] = {"GATEWAY_INTERFACE=CGI/1.1", NULL};
+    int in[2], from[2], status;
+    long total = 0, more;
+    pid_t pid;
+    posix_spawn_file_actions_t acts;
+    if (pipe2(in, O_CLOEXEC) || pipe2(from, O_CLOEXEC)) exit(1);
+    posix_spawn_file_actions_init(&acts);
+    posix_spawn_file_actions_adddup2(&acts, in[0], 0);
+    posix_spawn_file_actions_adddup2(&acts, from[1], 1);
+    if (posix_spawn(&pid, program, &acts, NULL, words, variables)) exit(1);
+    posix_spawn_file_actions_destroy(&acts);
+    close(in[0]), close(in[1]), close(from[1]);
+    while ((more = read(from[0], out + 256 + total, sizeof out - 256 - total)) > 0) total += more;
+    close(from[0]);
+    waitpid(pid, &status, 0);
+    char *body = memmem(out + 256, total, "\n\n", 2);
+    if (!body) exit(1);
+    int length = sprintf(head, "HTTP/1.1 200 OK\r\nContent-Type: text/plain\r\nContent-Length: %ld\r\n%s\r\n",
+                         total - (body + 2 - (out + 256)), closes ? "Connection: close\r\n" : "");
+    memcpy(body + 2 - length, head, length);
+    write(it, body + 2 - length, length + total - (body + 2 - (out + 256)));
+}
+static void *serve(void *none) {
+    char got[8192];
+    for (;;) {
+        int it = accept4(listener, NULL, NULL, SOCK_CLOEXEC), one = 1, closes = 0;
+        setsockopt(it, IPPROTO_TCP, TCP_NODELAY, &one, sizeof one);
+        while (!closes) {
+            long length = 0, more = 1;
+            for (got[0] = 0; !strstr(got, "\r\n\r\n"); got[length += more] = 0)
+                if ((more = read(it, got + length, sizeof got - 1 - length)) <= 0) break;
+            if (more <= 0) break;
+            closes = strstr(got, "Connection: close") != NULL;
+            answer(it, closes);
+        }
+        close(it);
+    }
+    return none;
+}
+int main(int count, char **words) {
+    int one = 1;
+    pthread_t thread;
+    struct sockaddr_in at = {.sin_family = AF_INET, .sin_port = htons(atoi(words[1]))};
+    (void)count;
+    at.sin_addr.s_addr = htonl(INADDR_LOOPBACK);
+    program = words[2];
+    listener = socket(AF_INET, SOCK_STREAM | SOCK_CLOEXEC, 0);
+    setsockopt(listener, SOL_SOCKET, SO_REUSEADDR, &one, sizeof one);
+    if (bind(listener, (struct sockaddr *)&at, sizeof at) || listen(listener, 1024)) return 1;
+    for (int made = 0; made < 64; made++) pthread_create(&thread, NULL, serve, NULL);
+    for (;;) pause();
+}
+END
 # The WebSocket client: over SOCKETS sockets to PORT, each with one message of 15 bytes under way, for SECONDS seconds. It
 # prints how many messages came back a second.
 cat >talk.c <<'END'
@@ -179,6 +254,7 @@ for name in small large echo; do
     cc -O2 -static -w -o "cgi/$name" "$name.c" 2>/dev/null || cc -O2 -w -o "cgi/$name" "$name.c"
 done
 cc -O2 -w -pthread -o bare bare.c
+cc -O2 -w -pthread -o least least.c
 cc -O2 -w -o talk talk.c
 cat >clock <<'END'
 #!/usr/bin/env python3
@@ -211,13 +287,16 @@ chrt -f -p 10 $$ >/dev/null 2>&1 || true
 } >site
 light=$(free_port)
 other=
+least=$(free_port)
+./least "$least" "$folder/cgi/small" &
+leasts=$!
 {
     printf 'server.document-root = "%s/cgi"\nserver.bind = "127.0.0.1"\nserver.port = %s\n' "$folder" "$light"
     printf 'server.modules = ("mod_cgi")\ncgi.assign = ("" => "")\nserver.max-keep-alive-requests = 1000000\n'
     printf 'server.upload-dirs = ("%s")\nserver.errorlog = "%s/light.log"\n' "$folder" "$folder"
 } >light.conf
 talked=
-trap 'end_server; kill $other $talked 2>/dev/null; rm -rf "$folder"' EXIT
+trap 'end_server; kill $leasts $other $talked 2>/dev/null; rm -rf "$folder"' EXIT
 if [ -n "$lighttpd" ]; then
     "$lighttpd" -D -f light.conf >light.said 2>&1 &
     other=$!
@@ -251,17 +330,24 @@ median() {
 row() {
     local name=$1 clients=$2 path=$3 bytes=$4 scale=$5 unit=$6 _
     shift 6
-    rm -f ours theirs bare.times
+    rm -f ours theirs bare.times least.times
     for _ in $(seq "$rounds"); do
         asked "$port" "$clients" "$path" "$@" >>ours
         [ -z "$other" ] || asked "$light" "$clients" "$path" "$@" >>theirs
         ./bare "$clients" "$seconds" "$folder/cgi/$path" "$bytes" >>bare.times
+        [ "$path" != small ] || asked "$least" "$clients" "$path" "$@" >>least.times
     done
     [ -n "$other" ] || echo 0 >theirs
+    [ "$path" = small ] || echo 0 >least.times
     awk -v name="$name" -v ours="$(median <ours)" -v theirs="$(median <theirs)" -v bare="$(median <bare.times)" \
-        -v scale="$scale" -v unit="$unit" 'BEGIN {
-        printf "%-44s %8.0f %s, lighttpd %8.0f (%5.2f), bare %8.0f (%5.2f)\n", name, ours * scale, unit,
+        -v least="$(median <least.times)" -v scale="$scale" -v unit="$unit" 'BEGIN {
+        printf "%-44s %8.0f %s, lighttpd %8.0f (%5.2f), bare %8.0f (%5.2f)", name, ours * scale, unit,
             theirs * scale, theirs ? ours / theirs : 0, bare * scale, bare ? ours / bare : 0
+        if (least) {
+            printf ", least %8.0f (%5.2f; itself %5.2f of lighttpd)", least, ours / least, theirs ? least / theirs : 0
+            if (theirs) print ours / theirs >>"means"
+        }
+        print ""
     }'
 }
 
@@ -283,12 +369,16 @@ row_of_talks() {
 measured() {
     local loops=$1 clients
     shift
+    rm -f means
     start "$@"
     [ "$failed" = 0 ] || return
     for clients in 1 8 64; do
         row "$loops, $clients clients, new connections" "$clients" small 0 1 '/s' -H 'Connection: close'
         row "$loops, $clients clients, kept connections" "$clients" small 0 1 '/s'
     done
+    if [ -s means ]; then
+        awk -v loops="$loops" '{ sum += $1 } END { printf "%s, mean of these six: %.2f of lighttpd\n", loops, sum / NR }' means
+    fi
     for clients in 1 8; do
         row "$loops, $clients clients, replies of 8 MiB" "$clients" large 0 8.388608 'MB/s'
         row "$loops, $clients clients, 1 MiB echoed" "$clients" echo 1048576 1.048576 'MB/s' -s post.lua

@@ -70,6 +70,16 @@ fn end<R: Eprint>(rt: &R, status: &Status) -> ExitCode
     ExitCode::from(number)
 }
 
+// How many bytes the block has that is taken and given back first.
+const BLOCK: usize = 1_048_576;
+
+// Has the C library keep what is given back for later. It gives memory back to the system by blocks and by what lies free
+// at the heap's end, both from 128 KiB on until a larger block was given back, and from that one's size and twice that
+// from then on. Where threads run that takes some ten microseconds each time.
+fn keep_memory(alloc: Global) {
+    drop(Vec::<u8>::with_capacity(alloc, BLOCK));
+}
+
 // What starts threads for one connection, and for each of as many loops as there may be.
 const STARTERS: u32 = 17;
 
@@ -155,6 +165,7 @@ fn run_in<
 
 fn main(rt: HostRuntime) -> ExitCode {
     let alloc = rt.alloc();
+    keep_memory(alloc);
     let words = match words(&rt) {
         Ok(words) => words,
         Err(status) => return end(&rt, &status),

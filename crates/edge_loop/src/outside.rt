@@ -54,6 +54,8 @@ pub struct NetOutside<P: Ports, S: Spawner, O: Orders, L: Ledger, R> {
     in_row: u32,
     // For so many more events the clients are asked before the children.
     calm: u32,
+    // Texts were given to a client, which is asked to take them before anything else.
+    gave: bool,
     limit: u32,
 }
 
@@ -126,6 +128,7 @@ impl<
             pause: MOST,
             in_row: 0,
             calm: 0,
+            gave: false,
             limit,
         }
     }
@@ -320,11 +323,20 @@ impl<
     fn asks_children_first(&mut self) -> bool
         ensures { self.new ≡ self.old }
     {
-        if self.in_row >= IN_ROW || self.calm > 0 {
+        if self.has_given() || self.in_row >= IN_ROW || self.calm > 0 {
             return false;
         }
         self.calm = CALM;
         true
+    }
+
+    // Whether texts were given to a client since this was asked.
+    fn has_given(&mut self) -> bool
+        ensures { self.new ≡ self.old }
+    {
+        let gave = self.gave;
+        self.gave = false;
+        gave
     }
 
     fn hear_child_first(&mut self) -> Option<Event>
@@ -483,18 +495,16 @@ impl<
         ensures counts { Counts self.old self.new }
     {
         let acted = self.sockets.act(act);
-        self.mind_waiting(act);
+        self.note_given(act);
         acted
     }
 
-    // A client to whom much waits is asked before its child has more for it.
-    fn mind_waiting(&mut self, act: &Act)
+    // The client of a WebSocket takes its texts before its child has more for it.
+    fn note_given(&mut self, act: &Act)
         ensures { self.new ≡ self.old }
     {
-        if let Act::Says { c, .. } = act {
-            if self.sockets.is_behind(*c) {
-                self.in_row = IN_ROW;
-            }
+        if let Act::Says { .. } = act {
+            self.gave = true;
         }
     }
 
@@ -540,6 +550,7 @@ impl<
             pause: _,
             in_row: _,
             calm: _,
+            gave: _,
             limit: _,
         } = self;
         children.end()

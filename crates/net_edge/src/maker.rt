@@ -24,11 +24,6 @@ const RING: usize = 1_024;
 // How many threads a loop keeps that have nothing to do. A child has two at most.
 const IDLE: usize = 64;
 
-// How many bytes a server takes and gives back at once as it begins. From then on libc keeps what a request gives back for
-// the next one, up to twice as many bytes: else it would hand them to the system and ask for them anew, several times in
-// each request, and each time the processors of the other threads are stopped.
-const KEPT: usize = 1_048_576;
-
 /// Makes real loops: a listener that they share, and for each its sockets, and programs of the system whose pumps wake
 /// it. A pump of the first of them reads the orders on standard input.
 #[derive(Drop)]
@@ -258,7 +253,6 @@ impl<
     }
 
     fn begin(&mut self) {
-        let _ = Vec::<u8>::with_capacity(self.alloc, KEPT);
         self.say();
         // Each loop has its own hand on it: once all have let go of it the address is free.
         self.listener = None;

@@ -1,5 +1,5 @@
 // What a pump moves its bytes through.
-ghost use Rattle.std.specs.Prelude.{◌≡◌, ◌<◌, ◌≤◌, vec_len, vec_capacity};
+ghost use Rattle.std.specs.Prelude.{◌≡◌, ◌≤◌, [], vec_len, vec_capacity};
 
 use host_base::NoMemory;
 use std::alloc::Global;
@@ -10,30 +10,35 @@ const SMALL: usize = 4_096;
 // .. and once a piece was as long as that.
 const LARGE: usize = 65_536;
 
-/// A small buffer, for which the memory of a large one was taken.
+// What a buffer holds at first, which is copied as one piece.
+const NOTHING: [u8; SMALL] = [0; SMALL];
+
+/// The memory of a large buffer. It is touched by the thread of the pump alone.
 #[derive(Drop)]
 pub struct Buffer {
-    bytes: Vec<u8>,
-    ghost some: { 0 < vec_len bytes },
+    room: Vec<u8>,
+    ghost empty: { room.items ≡ [] },
+    ghost large: { 65536 ≤ vec_capacity room },
 }
 
 impl Buffer {
-    ghost use Rattle.std.specs.Prelude.{◌≡◌, ◌≤◌, ◌<◌, vec_len, vec_capacity, IfOk};
+    ghost use Rattle.std.specs.Prelude.{◌≡◌, ◌≤◌, ◌<◌, vec_len, vec_capacity};
 
-    pub fn small(alloc: Global) -> Result<Self, NoMemory>
-        ensures small { IfOk result (λ buffer. vec_len buffer.bytes ≡ 4096) }
-        ensures room { IfOk result (λ buffer. 65536 ≤ vec_capacity buffer.bytes) }
-    {
-        let mut bytes = Vec::with_capacity(alloc, LARGE)?;
-        bytes.resize(SMALL, 0)?;
-        Ok(Buffer { bytes })
+    pub fn new(alloc: Global) -> Result<Self, NoMemory> {
+        Ok(Buffer {
+            room: Vec::with_capacity(alloc, LARGE)?,
+        })
     }
 
-    pub fn into_bytes(self) -> Vec<u8>
-        ensures same { result ≡ self.bytes }
+    /// A small buffer in the memory of the large one.
+    pub fn into_small(self) -> Vec<u8>
+        ensures small { vec_len result ≡ 4096 }
         ensures some { 0 < vec_len result }
+        ensures room { 65536 ≤ vec_capacity result }
     {
-        let Buffer { bytes } = self;
+        let Buffer { room } = self;
+        let mut bytes = room;
+        let _ = bytes.extend_from_slice(&NOTHING);
         bytes
     }
 }

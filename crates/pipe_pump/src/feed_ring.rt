@@ -51,7 +51,7 @@ pub fn feed_rings(alloc: Global, size: usize) -> Result<(Feeder, FeedRing), NoMe
     let (giver, taker) = hand_ring(alloc, &producer)?;
     let parker = Parker::new(alloc)?;
     let pump = parker.unparker().clone()?;
-    let buffer = Buffer::small(alloc)?;
+    let buffer = Buffer::new(alloc)?;
     Ok((
         Feeder::new(producer, giver, pump),
         FeedRing {

@@ -40,7 +40,7 @@ pub fn rings(alloc: Global, size: usize) -> Result<(PumpRing, Tap), NoMemory>
     let (producer, consumer) = RingBuffer::new(alloc, size)?;
     let parker = Parker::new(alloc)?;
     let pump = parker.unparker().clone()?;
-    let buffer = Buffer::small(alloc)?;
+    let buffer = Buffer::new(alloc)?;
     Ok((
         PumpRing {
             producer,
@@ -69,7 +69,7 @@ pub fn pump_out<R: Wait, P: PipeIn + Drop>(rt: &R, pipe: P, ring: PumpRing) -> P
         buffer,
     } = ring;
     let mut producer = producer;
-    let mut buffer = buffer.into_bytes();
+    let mut buffer = buffer.into_small();
     let mut pipe = pipe;
     let mut total = 0;
     for _ in rt.forever() {

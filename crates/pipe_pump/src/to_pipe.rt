@@ -19,6 +19,9 @@ use rtrb::{Consumer, Producer};
 use std::alloc::Global;
 use std::sync::Wait;
 
+// How long a piece is at most that is written before the pipe is told that the ring is empty.
+const SHORT: usize = 4_096;
+
 /// Moves bytes from a ring to a pipe until the feed has ended or the pipe fails, or the feeder is gone. It
 /// waits for the pipe, and for bytes in the ring.
 pub fn pump_in<R: Wait, P: PipeOut + Drop>(rt: &R, ring: FeedRing, pipe: P) -> PumpDone<P>
@@ -38,7 +41,7 @@ pub fn pump_in<R: Wait, P: PipeOut + Drop>(rt: &R, ring: FeedRing, pipe: P) -> P
     let mut hand = hand;
     let mut pipe = pipe;
     let mut total = 0;
-    let mut buffer = buffer.into_bytes();
+    let mut buffer = buffer.into_small();
     match pump_open(
         rt,
         &mut pipe,
@@ -199,7 +202,7 @@ fn move_some<P: PipeOut>(
     move_piece(pipe, consumer, total, &mut buffer[..room])
 }
 
-// .. and no more than the buffer holds. Where that empties the ring the pipe is told before it is written to.
+// .. and no more than the buffer holds. Where that empties the ring the pipe is told.
 fn move_piece<P: PipeOut>(
     pipe: &mut P,
     consumer: &mut Consumer<u8>,
@@ -231,19 +234,47 @@ fn move_piece<P: PipeOut>(
     Ok(count)
 }
 
-// Writes all of a piece, and answers whether the pipe took it. Where it is the last in the ring, the pipe is
-// told before.
-#[tactic(auto, using(crate::proofs::Fronts::none_joined, crate::proofs::Fronts::none_front, crate::proofs::Fronts::front_after))]
+// Writes all of a piece, and answers whether the pipe took it. Where it is the last in the ring the pipe is told: before a
+// long one, whose write may have to wait, and behind a short one, which it then has sooner.
 fn put_told<P: PipeOut>(pipe: &mut P, piece: &[u8], is_last: bool) -> bool
     ensures all { result ≡ true → Appends (P.taken pipe.old) (P.taken pipe.new) piece.now }
     ensures part { TookFront (P.taken pipe.old) (P.taken pipe.new) piece.now }
     ensures count { P.faults pipe.old ≤ P.faults pipe.new }
     ensures cause { result ≡ false → Rose (P.faults pipe.old) (P.faults pipe.new) }
 {
-    if is_last && tell(pipe) {
+    if !is_last {
+        put(pipe, piece)
+    } else if piece.len() > SHORT {
+        tell_and_put(pipe, piece)
+    } else {
+        put_and_tell(pipe, piece)
+    }
+}
+
+#[tactic(auto, using(crate::proofs::Fronts::none_joined, crate::proofs::Fronts::none_front, crate::proofs::Fronts::front_after))]
+fn tell_and_put<P: PipeOut>(pipe: &mut P, piece: &[u8]) -> bool
+    ensures all { result ≡ true → Appends (P.taken pipe.old) (P.taken pipe.new) piece.now }
+    ensures part { TookFront (P.taken pipe.old) (P.taken pipe.new) piece.now }
+    ensures count { P.faults pipe.old ≤ P.faults pipe.new }
+    ensures cause { result ≡ false → Rose (P.faults pipe.old) (P.faults pipe.new) }
+{
+    if tell(pipe) {
         return false;
     }
     put(pipe, piece)
+}
+
+#[tactic(auto, using(crate::proofs::Fronts::joined_none, crate::proofs::Fronts::whole_front))]
+fn put_and_tell<P: PipeOut>(pipe: &mut P, piece: &[u8]) -> bool
+    ensures all { result ≡ true → Appends (P.taken pipe.old) (P.taken pipe.new) piece.now }
+    ensures part { TookFront (P.taken pipe.old) (P.taken pipe.new) piece.now }
+    ensures count { P.faults pipe.old ≤ P.faults pipe.new }
+    ensures cause { result ≡ false → Rose (P.faults pipe.old) (P.faults pipe.new) }
+{
+    if !put(pipe, piece) {
+        return false;
+    }
+    !tell(pipe)
 }
 
 // Writes all of a piece, and answers whether the pipe took it.

@@ -14,7 +14,7 @@ use Rattle.host_trace.specs.declared.outside.Acted.TheVariants.{Done, NoRoom as 
 use Rattle.socket_set.specs.declared.set.Polled.{Polled}
 use Rattle.socket_set.specs.declared.set.Polled.TheVariants.{Told, Nothing, Again}
 use Rattle.socket_set.specs.Devices.{PortsTell}
-use Rattle.socket_set.specs.Clients.{ClientState, is_behind, IsStillOrShut, Rests, Says, UnlessShut, Keeps, WantsMore, Writes, Upgrades, Frames, Shuts}
+use Rattle.socket_set.specs.Clients.{ClientState, IsStillOrShut, Rests, Says, UnlessShut, Keeps, WantsMore, Writes, Upgrades, Frames, Shuts}
 
 pub record SetState : Type 0 where
   -- the clients and their numbers
@@ -133,11 +133,6 @@ is_shut_at (Some r) = r.shut
 abbrev pub is_open_at : Option ClientState → Bool
 is_open_at None = false
 is_open_at (Some r) = not r.shut
-
--- a client to whom more waits to be sent than is to
-abbrev pub is_behind_at : Option ClientState → Bool
-is_behind_at None = false
-is_behind_at (Some r) = is_behind r
 
 -- ---- acts
 

@@ -572,7 +572,7 @@ impl<S: Socket> Client<S> {
             return None;
         }
         match self.socket.receive(buffer) {
-            Received::Bytes(count) => self.feed(c, &buffer[..count]),
+            Received::Bytes(count) => self.hear_fed(c, &buffer[..count]),
             Received::Nothing => {
                 self.may_receive = false;
                 None
@@ -582,6 +582,21 @@ impl<S: Socket> Client<S> {
                 self.link = None;
                 Some(Event::ClientGone { c })
             }
+        }
+    }
+
+    // The next message, where bytes that were read make one.
+    fn hear_fed(&mut self, c: u64, bytes: &[u8]) -> Option<Event>
+        requires shut { self.old.shut ≡ false }
+        requires untroubled { self.old.troubled ≡ false }
+        requires wanted { self.old.wanted ≡ true }
+        requires upgraded { self.old.upgraded ≡ true }
+        ensures some { IfSome result (Says c self.old self.new) }
+        ensures none { IsNone result → Rests self.old self.new }
+    {
+        match self.feed(c, bytes) {
+            Some(event) => Some(event),
+            None => self.next_message(c),
         }
     }
 

@@ -17,6 +17,9 @@ const PIECE: usize = 65_536;
 // How many events of clients come at most between two ticks that are both owed.
 const BEFORE_TICK: u32 = 64;
 
+// How many clients that were given texts are asked at most before the ports are asked again what is ready.
+const GIVEN: usize = 64;
+
 /// What asking all brought.
 #[derive(Drop)]
 pub enum Polled {
@@ -44,6 +47,8 @@ pub struct SocketSet<P: Ports> {
     listener_queued: bool,
     // So many may be told before the ports are asked again what is ready.
     round: usize,
+    // So many more may be told in it of clients that are given texts.
+    given: usize,
     most: usize,
     accepted: u64,
     ticked: u64,
@@ -68,7 +73,7 @@ impl<P: Ports + Drop> SocketSet<P> {
     ghost use Rattle.std.specs.Prelude.{◌≡◌, ◌+◌, ◌-◌, ◌^◌, ◌<◌, true, false, [], None, All, IfOk, IfSome, IsSome, IsNone};
     ghost use Rattle.host_base.specs.Outsides.{Rose};
     ghost use Rattle.socket_set.specs.Clients.{Says, Rests, Keeps, Notes, IsStillOrShut, has_failed};
-    ghost use Rattle.socket_set.specs.Sets.{SetState, Tells, IsQuiet, IsIdle, OwesNoTick, told_by, Counted, OnOne, On, Inserts, Leaves, SameDevices, SameClients, is_shut_at, is_open_at, is_behind_at, clients};
+    ghost use Rattle.socket_set.specs.Sets.{SetState, Tells, IsQuiet, IsIdle, OwesNoTick, told_by, Counted, OnOne, On, Inserts, Leaves, SameDevices, SameClients, is_shut_at, is_open_at, clients};
 
     /// A set of no client yet, with room for `most`, those that were shut among them.
     pub fn new(alloc: Global, ports: P, most: u32) -> Result<SocketSet<P>, NoMemory>
@@ -88,6 +93,7 @@ impl<P: Ports + Drop> SocketSet<P> {
             paused: false,
             listener_queued: false,
             round: 0,
+            given: 0,
             most,
             accepted: 0,
             ticked: 0,
@@ -588,6 +594,17 @@ impl<P: Ports + Drop> SocketSet<P> {
     {
         self.look(millis);
         self.round = self.due.len();
+        self.given = GIVEN;
+    }
+
+    // One more may be told in this round, since a client was given texts.
+    fn lengthen_round(&mut self)
+        ensures { self.new ≡ self.old }
+    {
+        if self.given > 0 {
+            self.given -= 1;
+            self.round = self.round.saturating_add(1);
+        }
     }
 
     // Waits, and has those that are ready asked. A wait that fails is passed over.
@@ -666,16 +683,6 @@ impl<P: Ports + Drop> SocketSet<P> {
     {
         match self.clients.get(&c) {
             Some(client) => !client.is_shut(),
-            None => false,
-        }
-    }
-
-    /// More than 524,288 bytes wait to be sent to client c, so the clients are to be asked before anything adds to them.
-    pub fn is_behind(&self, c: u64) -> bool
-        ensures { result ≡ is_behind_at (clients self.now c) }
-    {
-        match self.clients.get(&c) {
-            Some(client) => client.is_behind(),
             None => false,
         }
     }

@@ -6,10 +6,12 @@ use pipe_pump::{PipeIn, PipeOut, PipeRead, PipeWrite};
 use std::io::{Read, Stdin, Write};
 use std::process::{ChildStdin, ChildStdout};
 
-/// A pipe that bytes come from. It rings before it waits for more, where it gave bytes that it has not rung for yet.
+/// A pipe that bytes come from. It rings before it waits for more, where it gave bytes that it has not rung for yet. It is
+/// closed where it ends, by the thread that reads it.
 #[derive(Drop)]
 pub struct BelledPipe<P> {
-    pipe: P,
+    /// Until it has ended.
+    pipe: Option<P>,
     bell: Bell,
     /// Bytes were given that it is still to ring for.
     gave: bool,
@@ -27,7 +29,7 @@ impl<P> BelledPipe<P> {
         ensures faults { result.faults ≡ 0 }
     {
         BelledPipe {
-            pipe,
+            pipe: Some(pipe),
             bell,
             gave: false,
             faults: 0,
@@ -47,7 +49,7 @@ impl<P> BelledPipe<P> {
     }
 }
 
-impl<P: Read> PipeIn for BelledPipe<P> {
+impl<P: Read + Drop> PipeIn for BelledPipe<P> {
     ghost use Rattle.std.specs.Prelude.{None};
 
     ghost left = { λ _. None };
@@ -59,8 +61,14 @@ impl<P: Read> PipeIn for BelledPipe<P> {
         if into.is_empty() {
             return PipeRead::Bytes(0);
         }
-        match self.pipe.read(into) {
-            Ok(0) => PipeRead::End,
+        let Some(pipe) = &mut self.pipe else {
+            return PipeRead::End;
+        };
+        match pipe.read(into) {
+            Ok(0) => {
+                self.pipe = None;
+                PipeRead::End
+            }
             Ok(count) => {
                 self.gave = true;
                 PipeRead::Bytes(count)

@@ -176,7 +176,8 @@ fn ends_ticks_and_failures_are_told(rt: HostRuntime) -> Result<(), Fail> {
                 ..PLAIN
             },
             b"pUwpppwpp",
-            b"A+m-+-",
+            // What is read is told at once where it makes a message; behind the last there may be another.
+            b"Am--+-",
             0,
         ),
         (PLAIN, b"pzppzpzp", b"A--tt", 0),

@@ -65,6 +65,7 @@ impl<P: Ports + Drop> SocketSet<P> {
         if let Some(client) = self.clients.get_mut(&c) {
             client.say(texts);
             client.enqueue(&mut self.due, c);
+            self.lengthen_round();
         }
     }
 

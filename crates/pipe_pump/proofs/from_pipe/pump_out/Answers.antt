@@ -19,7 +19,7 @@ below_most n e h = grind (arith, nat_tests)
 
 pub loop-init : goal.loop-init
 loop-init g c =
-    (tt, tt, ((refl, refl, refl, refl), refl), subst (λ w. Consumes (g.P.PipeIn.left c.args.pipe) (g.P.PipeIn.left c.args.pipe) w) (sym c.requires) (Consumes-nil (g.P.PipeIn.left c.args.pipe)), le_refl (g.P.PipeIn.faults c.args.pipe), ap length c.requires, omega arith, c.into_bytes-buffer.ensures.some)
+    (tt, tt, ((refl, refl, refl, refl), refl), subst (λ w. Consumes (g.P.PipeIn.left c.args.pipe) (g.P.PipeIn.left c.args.pipe) w) (sym c.requires) (Consumes-nil (g.P.PipeIn.left c.args.pipe)), le_refl (g.P.PipeIn.faults c.args.pipe), ap length c.requires, omega arith, c.into_small-buffer.ensures.some)
 
 pub loop-preserved : goal.loop-preserved
 loop-preserved g c =
