@@ -297,12 +297,16 @@ leasts=$!
 } >light.conf
 talked=
 trap 'end_server; kill $leasts $other $talked 2>/dev/null; rm -rf "$folder"' EXIT
-if [ -n "$lighttpd" ]; then
+[ -n "$lighttpd" ] || echo 'serve.sh: there is no lighttpd'
+
+# Starts lighttpd anew, where it is installed: it forks for each program, which takes longer once it has held large bodies.
+start_lighttpd() {
+    [ -n "$lighttpd" ] || return 0
+    [ -z "$other" ] || { kill "$other"; wait "$other"; } 2>/dev/null
     "$lighttpd" -D -f light.conf >light.said 2>&1 &
     other=$!
-else
-    echo 'serve.sh: there is no lighttpd'
-fi
+    sleep 0.3
+}
 talks=$(free_port)
 if command -v websocketd >/dev/null; then
     websocketd --address=127.0.0.1 --port="$talks" --loglevel=fatal /bin/cat >/dev/null 2>&1 &
@@ -370,6 +374,7 @@ measured() {
     local loops=$1 clients
     shift
     rm -f means
+    start_lighttpd
     start "$@"
     [ "$failed" = 0 ] || return
     for clients in 1 8 64; do
