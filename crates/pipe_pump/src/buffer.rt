@@ -22,9 +22,13 @@ pub struct Buffer {
 }
 
 impl Buffer {
-    ghost use Rattle.std.specs.Prelude.{◌≡◌, ◌≤◌, ◌<◌, vec_len, vec_capacity};
+    ghost use Rattle.std.specs.Prelude.{◌≡◌, ◌≤◌, ◌<◌, [], IfOk, vec_len, vec_capacity};
 
-    pub fn new(alloc: Global) -> Result<Self, NoMemory> {
+    /// The memory of one.
+    pub fn new(alloc: Global) -> Result<Self, NoMemory>
+        ensures empty { IfOk result (λ buffer. buffer.room.items ≡ []) }
+        ensures large { IfOk result (λ buffer. 65536 ≤ vec_capacity buffer.room) }
+    {
         Ok(Buffer {
             room: Vec::with_capacity(alloc, LARGE)?,
         })
