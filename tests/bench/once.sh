@@ -1,9 +1,12 @@
 #!/usr/bin/env bash
-# Prints how much longer a request by `cgihost once` with /bin/cat takes than a run of /bin/cat by a shell, each 400
-# times and by turns: at the tenth percentile, which other work on the machine touches least, and at the median. The
-# aim is 1.0 times or less at the tenth percentile. Where there is a cc, it prints the same of the least host that there
-# can be, in C, which says how much of the aim there is to be had: it reads a request, makes a thread that reads the
-# program's output to the end, spawns the program, waits for both and writes a reply, and checks nothing.
+# Prints how much longer a request by `cgihost once` with /bin/cat takes than a run of /bin/cat by a shell, and the same of
+# the least host that there can be, each RUNS times (1,000) and by turns, each of them as often first, second and third: at
+# the tenth percentile, which other work on the machine touches least, and at the median. The aim is 1.0 times or less at
+# the tenth percentile.
+#
+# The least host says how much of the aim there is to be had. It is in C, has a thread for the program's output as the host
+# has, and checks nothing: it reads a request, makes the thread, spawns the program, reads to the end, waits for it and
+# writes a reply.
 #
 # It is measured in the language that the machine is set to, as a user runs both, and in none (LC_ALL=C): a shell hands
 # its language on, and cat then reads the files of that language, where a script of the host gets no more variables than
@@ -11,23 +14,12 @@
 set -eu
 top=$(cd "$(dirname "$0")/../.." && pwd)
 program=${CGIHOST:-$top/crates/cgihost/out/cgihost}
-runs=${RUNS:-400}
+runs=${RUNS:-1000}
+command -v cc >/dev/null || { echo 'once.sh: skipped, there is no cc'; exit 0; }
 folder=$(mktemp -d)
 trap 'rm -rf "$folder"' EXIT
 cd "$folder"
 printf 'GET /hello HTTP/1.1\r\nHost: a\r\nConnection: close\r\n\r\n' >request
-
-by_host() {
-    "$program" once /hello=/bin/cat <request >/dev/null
-}
-
-by_shell() {
-    sh -c /bin/cat </dev/null >/dev/null
-}
-
-by_least() {
-    ./least <request >/dev/null
-}
 
 cat >least.c <<'END'
 #define _GNU_SOURCE
@@ -65,40 +57,72 @@ int main(void) {
     return write(1, "HTTP/1.1 502 Bad Gateway\r\n\r\n", 28) != 28;
 }
 END
-least=
-if command -v cc >/dev/null && cc -O2 -w -pthread -o least least.c; then
-    least=by_least
-fi
-
-# The microseconds that one run takes.
-timed() {
-    local begun=${EPOCHREALTIME/[.,]/}
-    "$1"
-    echo $((${EPOCHREALTIME/[.,]/} - begun)) >>"$1"
+# turns RUNS HOST LEAST: runs the host, the shell and the least host by turns, and prints, for each of them, the tenth
+# percentile and the median of the microseconds that a run took from its start until it was waited for.
+cat >turns.c <<'END'
+#define _GNU_SOURCE
+#include <fcntl.h>
+#include <spawn.h>
+#include <stdio.h>
+#include <stdlib.h>
+#include <sys/wait.h>
+#include <time.h>
+#include <unistd.h>
+extern char **environ;
+static double now(void) {
+    struct timespec it;
+    clock_gettime(CLOCK_MONOTONIC, &it);
+    return it.tv_sec * 1e6 + it.tv_nsec / 1e3;
 }
-
-# The value that so many of a hundred are below.
-centile() {
-    sort -n "$2" | sed -n "$((runs * $1 / 100 + 1))p"
+static double run(char **words, const char *input) {
+    int status;
+    pid_t pid;
+    posix_spawn_file_actions_t acts;
+    posix_spawn_file_actions_init(&acts);
+    posix_spawn_file_actions_addopen(&acts, 0, input, O_RDONLY, 0);
+    posix_spawn_file_actions_addopen(&acts, 1, "/dev/null", O_WRONLY, 0);
+    double begun = now();
+    if (posix_spawnp(&pid, words[0], &acts, NULL, words, environ)) exit(1);
+    if (waitpid(pid, &status, 0) != pid || !WIFEXITED(status)) exit(1);
+    double took = now() - begun;
+    posix_spawn_file_actions_destroy(&acts);
+    return took;
 }
+static int less(const void *one, const void *other) {
+    return *(const double *)one < *(const double *)other ? -1 : *(const double *)one > *(const double *)other;
+}
+int main(int count, char **words) {
+    int runs = atoi(words[1]);
+    char *all[3][4] = {{words[2], "once", "/hello=/bin/cat", NULL}, {"sh", "-c", "/bin/cat", NULL}, {words[3], NULL}};
+    const char *inputs[3] = {"request", "/dev/null", "request"};
+    double *took[3];
+    (void)count;
+    for (int one = 0; one < 3; one++) took[one] = malloc(runs * sizeof(double));
+    for (int at = -10; at < runs; at++)
+        for (int turn = 0; turn < 3; turn++) {
+            // Each order of the three comes as often as each other.
+            static const int orders[6][3] = {{0, 1, 2}, {0, 2, 1}, {1, 0, 2}, {1, 2, 0}, {2, 0, 1}, {2, 1, 0}};
+            int one = orders[(at + 12) % 6][turn];
+            double it = run(all[one], inputs[one]);
+            if (at >= 0) took[one][at] = it;
+        }
+    for (int one = 0; one < 3; one++) {
+        qsort(took[one], runs, sizeof(double), less);
+        printf("%.0f %.0f\n", took[one][runs / 10], took[one][runs / 2]);
+    }
+}
+END
+cc -O2 -w -pthread -o least least.c
+cc -O2 -w -o turns turns.c
 
 measured() {
-    local one
-    rm -f by_host by_shell by_least
-    for _ in 1 2 3 4 5 6 7 8 9 10; do
-        for one in by_host by_shell $least; do "$one"; done
-    done
-    for _ in $(seq "$runs"); do
-        for one in by_host by_shell $least; do timed "$one"; done
-    done
-    for at in 10 50; do
-        LC_ALL=C awk -v name="$1" -v at="$at" -v host="$(centile "$at" by_host)" -v shell="$(centile "$at" by_shell)" 'BEGIN {
-            printf "%s, %d of 100: cgihost once %d us, sh -c /bin/cat %d us, %.2f times%s\n", name, at, host, shell, host / shell, at == 10 ? " (aim: 1.0)" : ""
-        }'
-        [ -z "$least" ] || LC_ALL=C awk -v name="$1" -v at="$at" -v least="$(centile "$at" by_least)" -v shell="$(centile "$at" by_shell)" 'BEGIN {
-            printf "%s, %d of 100: the least host %d us, %.2f times\n", name, at, least, least / shell
-        }'
-    done
+    ./turns "$runs" "$program" ./least >took
+    LC_ALL=C awk -v name="$1" '{ tenth[NR] = $1; half[NR] = $2 } END {
+        printf "%s, 10 of 100: cgihost once %d us, sh -c /bin/cat %d us, %.2f times (aim: 1.0); the least host %d us, %.2f times\n",
+            name, tenth[1], tenth[2], tenth[1] / tenth[2], tenth[3], tenth[3] / tenth[2]
+        printf "%s, 50 of 100: cgihost once %d us, sh -c /bin/cat %d us, %.2f times; the least host %d us, %.2f times\n",
+            name, half[1], half[2], half[1] / half[2], half[3], half[3] / half[2]
+    }' took
 }
 
 . "$top/tests/bench/awake.sh"
