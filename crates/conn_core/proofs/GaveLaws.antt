@@ -1,7 +1,7 @@
 -- Acts of one connection, given one after another.
 use Rattle.std.proofs.Common.{◌≡◌, ℕ, ◌+◌, Bool, true, false, ◌&&◌, ◌||◌, ◌==◌, not, ◌<◌, ◌^◌, ◌-◌, List, [], ◌∷◌, ◌++◌, Option, Some, refl, sym, ap, ◌∙◌, subst, append-nil, if◌then◌else◌, length}
 use Rattle.std.specs.List.{list_any}
-use Rattle.std.proofs.lemmas.Bool.{and_from, eq-eqb}
+use Rattle.std.proofs.lemmas.Bool.{false≢true, and_from, eq-eqb}
 use Rattle.host_base.specs.declared.launch.Launch.{Launch}
 use Rattle.host_trace.specs.declared.items.Act.{Act}
 use Rattle.host_trace.specs.declared.items.Event.{Event}
@@ -34,7 +34,7 @@ use Rattle.conn_state.specs.Moves.{losing}
 use Rattle.conn_state.specs.Deeds.{Deed, GivesUp, Loses, Nothing, Or, Part, Then, gives_all, the_one, the_other}
 use Rattle.conn_core.specs.Parts.{Continues}
 use Rattle.conn_core.specs.Step.{SteppedBy}
-use Rattle.conn_core.specs.Writes.{acts_continued, acts_written, continued, wrote}
+use Rattle.conn_core.specs.Writes.{acts_continued, acts_written, continued, have_place, wrote}
 use Rattle.conn_state.proofs.KeptLaws.{kept_number, leads_none, leads_as, led_then, leads_then, kept_known, kept_turned, kept_same, losing_kept}
 
 pub adds_nothing : (b : Option (List Item)) → Adds b [] b
@@ -567,8 +567,13 @@ filled_by : (bytes : List ℕ) → (length bytes == 0) ≡ false → is_filled b
 filled_by [] e = sym e
 filled_by (b ∷ bytes) e = refl
 
-pub write_allowed : (m : Marks) (k : ℕ) (byte : ℕ) (bytes : List ℕ) → may_write m ≡ true → is_allowed m (Write k (byte ∷ bytes)) ≡ true
-write_allowed m k byte bytes may = and_from (may_write m && true) true (and_from (may_write m) true may refl) refl
+pub write_allowed : (m : Marks) (k : ℕ) (byte : ℕ) (bytes : List ℕ) → may_write m ≡ true → have_place m (byte ∷ bytes) ≡ true → is_allowed m (Write k (byte ∷ bytes)) ≡ true
+write_allowed m k byte bytes may place =
+    and_from (may_write m && true && have_place m (byte ∷ bytes)) true (and_from (may_write m && true) (have_place m (byte ∷ bytes)) (and_from (may_write m) true may refl) place) refl
+
+text_allowed : (m : Marks) (k : ℕ) (text : List ℕ) → may_write m ≡ true → is_filled text ≡ true → have_place m text ≡ true → is_allowed m (Write k text) ≡ true
+text_allowed m k [] may filled place = absurd (false≢true filled)
+text_allowed m k (byte ∷ bytes) may filled place = write_allowed m k byte bytes may place
 
 -- ---- Writes
 
@@ -577,18 +582,18 @@ pub record Wrote (bytes : List ℕ) (found : Bool) (old : Conn) (n : ℕ) (moves
   pub moves_are : moves ≡ gives_all (acts_written old.marks.c bytes found)
   pub is : new ≡ wrote bytes found old
 
-pub gave_write : {new : Conn} {n : ℕ} {b d : Option (List Item)} (bytes : List ℕ) (found : Bool) (old : Conn) → may_write (marks_of old) ≡ true → old.closing ≡ false
-    → new ≡ wrote bytes found old → Adds b (acts_written (number_of old) bytes found) d → Gave (Wrote bytes found) old n b new n d
-gave_write {new} {n} {b} {d} bytes found old may open_yet is told =
-    subst (λ (conn : Conn). Gave (Wrote bytes found) old n b conn n d) (sym is) (go bytes found told)
+pub gave_write : {new : Conn} {n : ℕ} {b d : Option (List Item)} (bytes : List ℕ) (found : Bool) (old : Conn) → may_write (marks_of old) ≡ true → (found ≡ true → have_place (marks_of old) bytes ≡ true)
+    → old.closing ≡ false → new ≡ wrote bytes found old → Adds b (acts_written (number_of old) bytes found) d → Gave (Wrote bytes found) old n b new n d
+gave_write {new} {n} {b} {d} bytes found old may place open_yet is told =
+    subst (λ (conn : Conn). Gave (Wrote bytes found) old n b conn n d) (sym is) (go bytes found place told)
   where
-    go : (text : List ℕ) (f : Bool) → Adds b (acts_written (number_of old) text f) d → Gave (Wrote text f) old n b (wrote text f old) n d
-    go [] f t = gave_still (kept_turned (kept_same old) (λ k. record { moves_are = refl; is = refl })) t
-    go (byte ∷ text) true t =
-        gave_plain (Write (number_of old) (byte ∷ text)) refl (write_allowed (marks_of old) (number_of old) byte text may) t
+    go : (text : List ℕ) (f : Bool) → (f ≡ true → have_place (marks_of old) text ≡ true) → Adds b (acts_written (number_of old) text f) d → Gave (Wrote text f) old n b (wrote text f old) n d
+    go [] f p t = gave_still (kept_turned (kept_same old) (λ k. record { moves_are = refl; is = refl })) t
+    go (byte ∷ text) true p t =
+        gave_plain (Write (number_of old) (byte ∷ text)) refl (write_allowed (marks_of old) (number_of old) byte text may (p refl)) t
         (record { site = refl; marks = refl; peer_is = refl; child = λ ks w. w; front = refl; lost = λ l. l; reading = λ r. r })
         (λ e known. sym known.closing ∙ open_yet) (record { moves_are = refl; is = refl })
-    go (byte ∷ text) false t = gave_still (kept_turned (losing_kept old) (λ k. record { moves_are = refl; is = refl })) t
+    go (byte ∷ text) false p t = gave_still (kept_turned (losing_kept old) (λ k. record { moves_are = refl; is = refl })) t
 
 -- ---- memory is wanting
 
@@ -600,19 +605,19 @@ gave_lost {old} {new} {n} {b} {d} k up told = gave_part (gave_still (kept_turned
 
 -- ---- 100 Continue
 
-pub gave_continue : {new : Conn} {n : ℕ} {b d : Option (List Item)} (found : Bool) (old : Conn) → may_write (marks_of old) ≡ true → old.closing ≡ false
-    → new ≡ continued found old → Adds b (acts_continued (number_of old) found) d → Gave (Or Continues Loses) old n b new n d
-gave_continue {new} {n} {b} {d} found old may open_yet is told =
-    subst (λ (conn : Conn). Gave (Or Continues Loses) old n b conn n d) (sym is) (go found told)
+pub gave_continue : {new : Conn} {n : ℕ} {b d : Option (List Item)} (found : Bool) (old : Conn) → may_write (marks_of old) ≡ true → (found ≡ true → have_place (marks_of old) continue_text ≡ true)
+    → old.closing ≡ false → new ≡ continued found old → Adds b (acts_continued (number_of old) found) d → Gave (Or Continues Loses) old n b new n d
+gave_continue {new} {n} {b} {d} found old may place open_yet is told =
+    subst (λ (conn : Conn). Gave (Or Continues Loses) old n b conn n d) (sym is) (go found place told)
   where
-    go : (f : Bool) → Adds b (acts_continued (number_of old) f) d → Gave (Or Continues Loses) old n b (continued f old) n d
-    go true t = record {
+    go : (f : Bool) → (f ≡ true → have_place (marks_of old) continue_text ≡ true) → Adds b (acts_continued (number_of old) f) d → Gave (Or Continues Loses) old n b (continued f old) n d
+    go true p t = record {
       acts = Write (number_of old) continue_text ∷ [];
       told = t;
       next = refl;
       site = refl;
       peer_is = refl;
-      form = and_from _ _ (and_from (may_write (marks_of old) && true) true (and_from (may_write (marks_of old)) true may refl) refl) refl;
+      form = and_from (is_allowed (marks_of old) (Write (number_of old) continue_text)) true (text_allowed (marks_of old) (number_of old) continue_text may refl (p refl)) refl;
       marks = refl;
       own = λ ks w. plain_own (number_of old) n ks (Write (number_of old) continue_text) (continued true old) refl w;
       moves = continues (number_of old) ∷ [];
@@ -623,7 +628,7 @@ gave_continue {new} {n} {b} {d} found old may open_yet is told =
       );
       does = the_one (record { moves_are = refl; is = refl });
     }
-    go false t = gave_still (kept_turned (losing_kept old) (λ k. the_other (loses_here old k))) t
+    go false p t = gave_still (kept_turned (losing_kept old) (λ k. the_other (loses_here old k))) t
 
 -- ---- the request was looked at
 

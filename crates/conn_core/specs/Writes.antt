@@ -1,11 +1,11 @@
 -- What a Write makes of a connection, and which Start is given.
-use Rattle.std.specs.Prelude.{ℕ, ◌+◌, Bool, true, false, List, [], ◌∷◌}
+use Rattle.std.specs.Prelude.{ℕ, ◌+◌, Bool, true, false, List, [], ◌∷◌, length}
 use Rattle.host_base.specs.declared.launch.Launch.{Launch}
 use Rattle.host_trace.specs.declared.items.Act.{Act}
 use Rattle.host_trace.specs.declared.items.Act.TheVariants.{Start, Write}
 use Rattle.host_trace.specs.declared.items.Item.TheVariants.{Out}
 use Rattle.trace_model.specs.Exchange.{continue_text}
-use Rattle.conn_marks.specs.View.{noted}
+use Rattle.conn_marks.specs.View.{View, has_place, noted}
 use Rattle.conn_state.specs.declared.conn.Conn.{Conn}
 use Rattle.conn_state.specs.Moves.{losing}
 
@@ -14,6 +14,11 @@ abbrev pub acts_written : ℕ → List ℕ → Bool → List Act
 acts_written c [] found = []
 acts_written c (byte ∷ bytes) true = Write c (byte ∷ bytes) ∷ []
 acts_written c (byte ∷ bytes) false = []
+
+-- .. bytes of which there are some find a place
+abbrev pub have_place : View → List ℕ → Bool
+have_place marks [] = true
+have_place marks (byte ∷ bytes) = has_place marks (length (byte ∷ bytes))
 
 abbrev pub wrote : List ℕ → Bool → Conn → Conn
 wrote [] found conn = conn

@@ -7,8 +7,9 @@ ghost use Rattle.conn_state.specs.Kept.{Gave};
 ghost use Rattle.conn_state.specs.Deeds.{Loses, Or, Part};
 ghost use Rattle.conn_core.specs.Parts.{FinishesBy, Gives, GivesHop, LetsOn, LosesText, StartsRun, WritesPart};
 ghost use Rattle.conn_state.specs.Settles.{is_answered};
-ghost use Rattle.conn_core.specs.Writes.{acts_continued, acts_started, acts_written, continued, next_if, wrote};
+ghost use Rattle.conn_core.specs.Writes.{acts_continued, acts_started, acts_written, continued, have_place, next_if, wrote};
 ghost use Rattle.trace_child.specs.Words.{is_filled};
+ghost use Rattle.trace_model.specs.Exchange.{continue_text};
 
 use child_core::Run;
 use conn_state::Conn;
@@ -28,18 +29,19 @@ pub fn give_plain<O: Outside>(act: &Act, out: &mut O)
     out.act(act);
 }
 
-// Writes bytes, of which there may be none; false where there was no room.
+// Writes bytes, of which there may be none; false where there was no room, or more would wait to be sent than may.
 pub fn write<O: Outside>(conn: &mut Conn<'_>, bytes: Bytes, out: &mut O) -> bool
     ensures value { conn.new ≡ wrote bytes result conn.old }
     ensures told { Adds (O.trace out.old) (acts_written conn.old.marks.c bytes result) (O.trace out.new) }
     ensures filled { result ≡ false → is_filled bytes ≡ true }
+    ensures place { result ≡ true → have_place conn.old.marks bytes ≡ true }
     ensures limit { O.limit out.new ≡ O.limit out.old }
 {
     if bytes.is_empty() {
         return true;
     }
     let len = bytes.len() as u64;
-    if !conn.marks.can_count(len) {
+    if !conn.marks.has_place(len) {
         conn.lose();
         return false;
     }
@@ -71,6 +73,7 @@ pub fn let_continue<O: Outside>(conn: &mut Conn<'_>, out: &mut O)
 fn write_continue<O: Outside>(conn: &mut Conn<'_>, out: &mut O) -> bool
     ensures value { conn.new ≡ continued result conn.old }
     ensures told { Adds (O.trace out.old) (acts_continued conn.old.marks.c result) (O.trace out.new) }
+    ensures place { result ≡ true → have_place conn.old.marks continue_text ≡ true }
     ensures limit { O.limit out.new ≡ O.limit out.old }
 {
     let Ok(bytes) = Bytes::from_slice(conn.alloc, CONTINUE) else {

@@ -11,7 +11,7 @@ ghost use Rattle.talk_core.specs.View.{begun as talk_begun};
 ghost use Rattle.talk_conn.specs.View.{marks_of as talk_marks, run_of as talk_run, site_of as talk_site, talk_of, was_lost};
 ghost use Rattle.conn_state.specs.Kept.{site_of};
 ghost use Rattle.conn_core.specs.Opens.{OpensOr, acts_upgraded, missed, upgraded_by};
-ghost use Rattle.conn_core.specs.Writes.{acts_written, wrote};
+ghost use Rattle.conn_core.specs.Writes.{acts_written, have_place, wrote};
 
 use crate::close::shut_for;
 use crate::give::{start, write};
@@ -30,6 +30,7 @@ pub fn greet<O: Outside>(conn: &mut Conn<'_>, welcome: Welcome, out: &mut O) -> 
     ensures told { Adds (O.trace out.old) (acts_written conn.old.marks.c welcome.text (is_some result)) (O.trace out.new) }
     ensures launch { IfSome result (λ launch. launch ≡ welcome.launch) }
     ensures filled { result ≡ None → is_filled welcome.text ≡ true }
+    ensures place { is_some result ≡ true → have_place conn.old.marks welcome.text ≡ true }
     ensures limit { O.limit out.new ≡ O.limit out.old }
 {
     let Welcome { text, launch } = welcome;

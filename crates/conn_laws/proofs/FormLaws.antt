@@ -1,6 +1,6 @@
 -- What the marks of a connection say in the words of the rules.
-use Rattle.std.proofs.Common.{◌≡◌, ℕ, Bool, true, false, List, [], ◌∷◌, ◌++◌, refl, sym, ap, subst, ◌∙◌}
-use Rattle.std.specs.Prelude.{not, ◌&&◌, ◌||◌, ◌==◌}
+use Rattle.std.proofs.Common.{◌≡◌, ℕ, Bool, true, false, List, [], ◌∷◌, ◌++◌, refl, sym, ap, arith, subst, ◌∙◌, length, ◌+◌}
+use Rattle.std.specs.Prelude.{not, ◌-◌, ◌&&◌, ◌||◌, ◌==◌, if◌then◌else◌, nat_le}
 use Rattle.std.specs.List.{list_any}
 use Rattle.std.proofs.lemmas.Bool.{false≢true, eqb-true, and_parts, and_from}
 use Rattle.host_trace.specs.declared.items.Act.{Act}
@@ -8,12 +8,12 @@ use Rattle.host_trace.specs.declared.items.Act.TheVariants.{WantClient, Write, S
 use Rattle.host_trace.specs.declared.items.Item.{Item}
 use Rattle.host_trace.specs.declared.items.Item.TheVariants.{Out}
 use Rattle.host_trace.specs.Kinds.{names, names_child, is_accepted}
-use Rattle.host_trace.specs.Projections.{names_one_of, shut, upgraded, client_wanted}
+use Rattle.host_trace.specs.Projections.{left_of_phase, names_one_of, pending, sent_of_phase, shut, upgraded, client_wanted}
 use Rattle.own_traces.specs.Whose.{is_of, are_of, with_child, next_child}
 use Rattle.trace_child.specs.Words.{is_filled}
 use Rattle.trace_model.specs.Demands.{is_live}
-use Rattle.trace_model.specs.Form.{may_come}
-use Rattle.conn_marks.specs.View.{View, noted, is_live as lives, has_room as finds_room}
+use Rattle.trace_model.specs.Form.{has_place as may_hold, may_come}
+use Rattle.conn_marks.specs.View.{View, noted, is_live as lives, may_write, has_room as finds_room}
 use Rattle.conn_marks.specs.Knows.{Knows}
 use Rattle.conn_marks.specs.Form.{may_give, is_timely, is_allowed, are_given}
 use Rattle.conn_marks.specs.Laws.{AreExact}
@@ -34,6 +34,18 @@ marks_say m L k =
       asked = exact.asked;
     }
 
+un_not : (b : Bool) → not b ≡ true → b ≡ false
+un_not true is = absurd (false≢true is)
+un_not false is = refl
+
+less : (a b c : ℕ) → a ≡ b + c → a - b ≡ c
+less a b c sum = omega (arith, sum)
+
+-- two tests that say the same where another holds
+where_so : (a b d e : Bool) → (a ≡ true → d ≡ e) → (a && b && d) ≡ (a && b && e)
+where_so true b d e same = ap (λ x. b && x) (same refl)
+where_so false b d e same = refl
+
 module _ (m : View) (L : List Item) (k : Knows m L) where
   exact : AreExact m L
   exact = marks_told m L k
@@ -41,11 +53,21 @@ module _ (m : View) (L : List Item) (k : Knows m L) where
   at_mine : (d : ℕ) (claim : ℕ → Type 0) → claim m.c → (m.c == d) ≡ true → claim d
   at_mine d claim mine is = subst claim (eqb-true m.c d is) mine
 
+  unshut : may_write m ≡ true → m.shut ≡ false
+  unshut may = un_not m.shut (and_parts m.accepted (not m.shut) (and_parts (lives m) (not m.upgraded) may).0).1
+
+  pending_is : m.shut ≡ false → pending L m.c ≡ m.pending
+  pending_is going =
+      let sum = k.sent going in
+      ap (λ b. if b then 0 else sent_of_phase L m.c - left_of_phase L m.c) (sym k.shut ∙ going) ∙ less (sent_of_phase L m.c) (left_of_phase L m.c) m.pending sum
+
   form_by : (act : Act) → names m.c (Out act) ≡ true → is_to_connection act ≡ true → may_come L act ≡ may_give m act
   form_by (WantClient d) mine to =
       at_mine d (λ c. (is_live c L && not (client_wanted L c)) ≡ may_give m (WantClient c)) (rw (exact.live, exact.asked) refl) mine
   form_by (Write d bytes) mine to =
-      at_mine d (λ c. (is_live c L && not (upgraded L c) && is_filled bytes) ≡ may_give m (Write c bytes)) (ap (λ b. b && is_filled bytes) (sym exact.write)) mine
+      at_mine d (λ c. (is_live c L && not (upgraded L c) && is_filled bytes && may_hold c L (length bytes)) ≡ may_give m (Write c bytes))
+      (ap (λ b. b && is_filled bytes && may_hold m.c L (length bytes)) (sym exact.write)
+      ∙ where_so (may_write m) (is_filled bytes) _ _ (λ may. ap (λ n. nat_le (n + length bytes) 344064) (pending_is (unshut may)))) mine
   form_by (Shut d why) mine to = at_mine d (λ c. is_live c L ≡ may_give m (Shut c why)) (sym exact.live) mine
   form_by (Upgrade d rest) mine to = at_mine d (λ c. (is_live c L && not (upgraded L c)) ≡ may_give m (Upgrade c rest)) (sym exact.write) mine
   form_by (Says d texts) mine to =

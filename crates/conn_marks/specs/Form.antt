@@ -1,15 +1,15 @@
 -- Which acts may be given by the marks of a connection, and what acts make of them.
-use Rattle.std.specs.Prelude.{ℕ, Bool, true, not, ◌&&◌, List, [], ◌∷◌}
+use Rattle.std.specs.Prelude.{ℕ, Bool, true, not, ◌&&◌, List, [], ◌∷◌, length}
 use Rattle.host_trace.specs.declared.items.Act.{Act}
 use Rattle.host_trace.specs.declared.items.Act.TheVariants.{WantClient, Write, Shut, Start, Feed, EndInput, WantChild, Kill, Release, Upgrade, Says, CloseWs}
 use Rattle.host_trace.specs.declared.items.Item.TheVariants.{Out}
 use Rattle.trace_child.specs.Words.{is_filled}
-use Rattle.conn_marks.specs.View.{View, noted, is_live, may_write, has_room}
+use Rattle.conn_marks.specs.View.{View, noted, is_live, may_write, has_place, has_room}
 
 -- the act may be given to the connection; what may be given to its child is not said here
 abbrev pub may_give : View → Act → Bool
 may_give m (WantClient c) = is_live m && not m.asked
-may_give m (Write c bytes) = may_write m && is_filled bytes
+may_give m (Write c bytes) = may_write m && is_filled bytes && has_place m (length bytes)
 may_give m (Shut c why) = is_live m
 may_give m (Start k c j hop launch) = is_live m
 may_give m (Feed k bytes) = true

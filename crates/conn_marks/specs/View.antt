@@ -74,6 +74,10 @@ is_live m = m.accepted && not m.shut
 abbrev pub may_write : View → Bool
 may_write m = is_live m && not m.upgraded
 
+-- so many bytes more find a place among those that wait to be sent
+abbrev pub has_place : View → ℕ → Bool
+has_place m n = nat_le (m.pending + n) 344064
+
 -- not too much waits to be sent
 abbrev pub has_room : View → Bool
 has_room m = m.shut || nat_le m.pending 262144

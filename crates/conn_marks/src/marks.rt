@@ -32,7 +32,7 @@ impl Marks {
     ghost use Rattle.host_trace.specs.declared.items.Item.TheVariants.{In, Out};
     ghost use Rattle.host_trace.specs.declared.items.Act.TheVariants.{WantClient, Write, Shut, Upgrade, Says};
     ghost use Rattle.host_trace.specs.declared.items.Why.{Why};
-    ghost use Rattle.conn_marks.specs.View.{fresh, noted, is_live, may_write, has_room};
+    ghost use Rattle.conn_marks.specs.View.{fresh, noted, is_live, may_write, has_place, has_room};
     ghost use Rattle.conn_marks.specs.Fits.{fits_marks};
 
     /// Those of connection `c`, of which nothing is known yet.
@@ -221,6 +221,14 @@ impl Marks {
         ensures { result ≡ has_room self.now }
     {
         self.shut || self.pending <= 262_144
+    }
+
+    /// Whether so many bytes more may be written: 344,064 bytes wait to be sent at most, which are the 262,144 that may wait
+    /// when output is asked for, a piece of it, and 16,384 for the head of a reply and what frames its body.
+    pub fn has_place(&self, len: u64) -> bool
+        ensures { result ≡ has_place self.now len }
+    {
+        len <= 344_064 && self.pending <= 344_064 - len
     }
 
     /// Whether so many bytes more can be counted with those that wait to be sent.

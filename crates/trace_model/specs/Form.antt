@@ -1,12 +1,12 @@
 -- When each act of a connection may stand, and in which order the acts of a step come.
-use Rattle.std.specs.Prelude.{ℕ, Bool, true, false, not, ◌&&◌, ◌||◌, nat_le, if◌then◌else◌, List, [], ◌∷◌}
+use Rattle.std.specs.Prelude.{ℕ, Bool, true, false, not, ◌+◌, ◌&&◌, ◌||◌, nat_le, if◌then◌else◌, List, [], ◌∷◌, length}
 use Rattle.host_base.specs.declared.site.Site.{Site}
 use Rattle.host_trace.specs.declared.items.Act.{Act}
 use Rattle.host_trace.specs.declared.items.Act.TheVariants.{WantClient, Write, Shut, Start, Feed, EndInput, WantChild, Kill, Release, Upgrade, Says, CloseWs}
 use Rattle.host_trace.specs.declared.items.Item.{Item}
 use Rattle.host_trace.specs.declared.items.Item.TheVariants.{Out}
 use Rattle.host_trace.specs.Account.{has_unsettled}
-use Rattle.host_trace.specs.Projections.{client_wanted, upgraded}
+use Rattle.host_trace.specs.Projections.{client_wanted, pending, upgraded}
 use Rattle.host_trace.specs.Trace.{Step}
 use Rattle.trace_child.specs.Words.{is_filled}
 use Rattle.trace_child.specs.ChildForm.{may_be_given}
@@ -16,12 +16,17 @@ use Rattle.trace_model.specs.Exchange.{Exchange, pushed, all_of}
 use Rattle.trace_model.specs.Exchanges.{current, next_of, has_ended}
 use Rattle.trace_model.specs.Steps.{heard_of}
 
+-- So many bytes more find a place among those that wait to be sent: 262,144 may wait when output is asked for, a piece of
+-- it has at most 65,536, and 16,384 are for the head of a reply and what frames its body.
+abbrev pub has_place : ℕ → List Item → ℕ → Bool
+has_place c L n = nat_le (pending L c + n) 344064
+
 -- The act may come next after these items of its connection: of the connection nothing but between its Accepted and its
--- Shut; one question at a time; a byte and a text at least; HTTP before the Upgrade and a WebSocket after it. What may be
--- given to a child is said with the rules on children.
+-- Shut; one question at a time; a byte and a text at least; HTTP before the Upgrade, where its bytes find a place, and a
+-- WebSocket after it. What may be given to a child is said with the rules on children.
 abbrev pub may_come : List Item → Act → Bool
 may_come L (WantClient c) = is_live c L && not (client_wanted L c)
-may_come L (Write c bytes) = is_live c L && not (upgraded L c) && is_filled bytes
+may_come L (Write c bytes) = is_live c L && not (upgraded L c) && is_filled bytes && has_place c L (length bytes)
 may_come L (Shut c why) = is_live c L
 may_come L (Start k c j hop launch) = is_live c L && may_be_given L (Start k c j hop launch)
 may_come L (Feed k bytes) = may_be_given L (Feed k bytes)

@@ -14,4 +14,4 @@ returns-clause-gave g c n =
     gave_part_written c.args.leg c.write-found.result c.requires.writing (ap (λ (conn : Conn). is_answered conn.stage) put) (c.put.ensures.kept refl) put
     (subst (λ (text : List ℕ). Gave (Wrote text c.write-found.result) c.args.conn.now n (g.O.Outside.trace c.args.out.now) c.write-found.new.conn n (g.O.Outside.trace c.write-found.new.out))
     c.replace-text.ensures.value
-    (gave_write c.replace-text.result c.write-found.result c.args.conn.now c.requires.may c.requires.open c.write-found.ensures.value c.write-found.ensures.told))
+    (gave_write c.replace-text.result c.write-found.result c.args.conn.now c.requires.may c.write-found.ensures.place c.requires.open c.write-found.ensures.value c.write-found.ensures.told))

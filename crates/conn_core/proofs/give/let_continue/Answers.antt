@@ -6,7 +6,7 @@ use Rattle.conn_core.proofs.give.let_continue.Goals as goal
 pub returns-then-is_continue_due-clause-gave : goal.returns-then-is_continue_due-clause-gave
 returns-then-is_continue_due-clause-gave g c n =
     gave_part (gave_as (λ moves d. record { due = true; tells = subst (TellsContinue c.args.conn.now) c.if-is_continue_due.true c.is_continue_due.ensures.tells; by = d })
-    (gave_continue c.write_continue-found.result c.args.conn.now (c.is_continue_due.ensures.may c.if-is_continue_due.true) (c.is_continue_due.ensures.closing c.if-is_continue_due.true)
+    (gave_continue c.write_continue-found.result c.args.conn.now (c.is_continue_due.ensures.may c.if-is_continue_due.true) c.write_continue-found.ensures.place (c.is_continue_due.ensures.closing c.if-is_continue_due.true)
     c.write_continue-found.ensures.value c.write_continue-found.ensures.told))
 
 pub returns-else-is_continue_due-clause-gave : goal.returns-else-is_continue_due-clause-gave

@@ -23,7 +23,7 @@ returns-in-Some-clause-gave g c =
     let readied : ReadiesWelcome c.in-Some.welcome old old = subst (λ (x : Conn). ReadiesWelcome c.in-Some.welcome old x) same c.in-Some.ensures.welcome in
     let may : may_write c.ready_hop.new.self.marks ≡ true = ap (λ (x : Conn). may_write x.marks) same ∙ start_writes old.marks (c.has_turn.ensures.may c.if-not-has_turn.false) in
     let open_yet : c.ready_hop.new.self.closing ≡ false = ap (λ (x : Conn). x.closing) same ∙ c.has_turn.ensures.«open» c.if-not-has_turn.false in
-    let written = gave_write c.in-Some.welcome.text (is_some c.greet.result) c.ready_hop.new.self may open_yet c.greet.ensures.value c.greet.ensures.told in
+    let written = gave_write c.in-Some.welcome.text (is_some c.greet.result) c.ready_hop.new.self may c.greet.ensures.place open_yet c.greet.ensures.value c.greet.ensures.told in
     gave_greeting old c.args.children.now c.in-Some.welcome readied turn c.greet.result c.greet.ensures.launch c.greet.ensures.filled c.args.now
     (subst (λ (x : Conn). Gave (Wrote c.in-Some.welcome.text (is_some c.greet.result)) x c.args.children.now (g.O.Outside.trace c.args.out.now) c.greet.new.conn c.args.children.now (g.O.Outside.trace c.greet.new.out)) same written)
 

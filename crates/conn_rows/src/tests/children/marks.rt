@@ -98,6 +98,29 @@ const SENT: [(&[Told], Tells); 8] = [
     (&[Upgrade, Say(262_145)], (N, N, N, N, N, N, N)),
 ];
 
+// 344,064 bytes wait to be sent at most: whether so many more find a place.
+const PLACES: [(&[Told], u64, bool); 8] = [
+    (&[], 344_064, Y),
+    (&[], 344_065, N),
+    (&[], 18_446_744_073_709_551_615, N),
+    (&[Write(262_144)], 81_920, Y),
+    (&[Write(262_144)], 81_921, N),
+    (&[Write(262_144), Wrote(1, 1)], 81_921, Y),
+    (&[Write(344_064)], 0, Y),
+    (&[Write(344_064)], 1, N),
+];
+
+#[test]
+fn what_is_written_finds_a_place(rt: HostRuntime) {
+    for row in PLACES.iter() {
+        let mut marks = Marks::new(1);
+        for t in row.0.iter() {
+            tell(&mut marks, *t);
+        }
+        assert_eq!(rt; marks.has_place(row.1), row.2);
+    }
+}
+
 #[test]
 fn marks_are_what_was_told(rt: HostRuntime) {
     for row in CLIENT.iter() {
