@@ -27,4 +27,4 @@ module _ {C : Type 0} (K : Kind C) (laws : Laws K) where
   ]
 
 pub stands_good : {C : Type 0} {G : Ghosts C} → Laws G.kind → (core : Core C G) (T : List Item) → Stands core T → Good G.kind (served core) T
-stands_good {C} {G} laws core T s = record { begun = s.begun; parts = λ c lt. part_of G.kind laws (served core) (conns core) T c s.lists lt; between = s.between }
+stands_good {C} {G} laws core T s = record { begun = s.begun; parts = λ c lt. part_of G.kind laws (served core) (conns core) T c s.lists lt; between = s.between; fit = s.fit }

@@ -34,6 +34,8 @@ use Rattle.many_conns.specs.Lists.{IsAtPlace, Lists, Mid, numbers}
 use Rattle.many_conns.specs.Apart.{owner_by}
 use Rattle.all_conns.specs.Owners.{AddsOne, HasNone, IsPlace, IsRest, Sound, conns, served}
 use Rattle.trace_child.specs.Words.{given, once}
+use Rattle.trace_laws.specs.Promised.{HasFitting}
+use Rattle.trace_laws.proofs.FitLaws.{fit-more}
 use Rattle.trace_model.specs.Between.{BetweenGood, is_slot_kept, owner_of_event, turns_away}
 use Rattle.host_trace.specs.Account.{slots_held}
 use Rattle.many_conns.specs.Turns.{Turn}
@@ -160,6 +162,7 @@ module _ {C : Type 0} {G : Ghosts C} (laws : Laws G.kind) where
         lists = subst (λ t. Lists K t (conns new) U) (sym same_site) (subst (λ xs. Lists K site xs U) (sym items) (freed K laws site (set xs i sv.now) U lists));
         between = subst (λ q. AtEachStep (BetweenGood q) U) (sym same_site) (one_between K laws site (λ j. false) (i + 1) event (set xs i sv.now) T U (K.number_of x) st.turn b known special is
             (ap (λ acts. are_of (K.number_of x) (children V (K.number_of x)) (start_count V) acts) st.is ∙ st.alone) s.between);
+        fit = subst (λ q. AtEachStep (HasFitting q) U) (sym same_site) (fit-more site T event st.turn.acts U st.turn.grew f s.fit);
         accepted = fr.rest.accepted ∙ (sv.accepted ∙ (s.accepted ∙ sym (st.accepted ∙ accepted_count-same T (In event) (not_accepted (In event) special))));
         children = fr.rest.children ∙ st.count;
         stopped = fr.rest.stopped ∙ (sv.stopped ∙ (s.stopped ∙ sym (ap stopped st.turn.grew ∙ (stopped-more T event st.turn.acts ∙ (ap (λ b. stopped T || b) (not_stop (In event) special) ∙ or_nothing (stopped T))))));
@@ -211,15 +214,16 @@ module _ {C : Type 0} {G : Ghosts C} (laws : Laws G.kind) where
     ]
   ]
 
-  pub missed_stands : (core : Core C G) (T : List Item) (limit : ℕ) (event : Event) → Sound core → Stands core T → is_common (In event) ≡ false → fits limit T event ≡ true →
-      Missed core T event → Stands core (T ++ In event ∷ [])
-  missed_stands core T limit event sound s special f m =
-      let lists = late_lists core T limit event sound s special f m in
+  pub missed_stands : (core : Core C G) (T : List Item) (event : Event) → Sound core → Stands core T → is_common (In event) ≡ false
+      → fits (served core).limits.children T event ≡ true → Missed core T event → Stands core (T ++ In event ∷ [])
+  missed_stands core T event sound s special f m =
+      let lists = late_lists core T (served core).limits.children event sound s special f m in
       record {
         begun = begun_step T event [] (T ++ In event ∷ []) refl s.begun;
         held = s.held;
         lists = lists;
         between = quiet_between K laws (served core) T event (not_accepted (In event) special) s.between;
+        fit = fit-more (served core) T event [] (T ++ In event ∷ []) refl f s.fit;
         accepted = s.accepted ∙ sym (accepted_count-same T (In event) (not_accepted (In event) special));
         children = s.children ∙ sym (start_count-next T (In event));
         stopped = s.stopped ∙ sym (stopped-push T (In event) ∙ (ap (λ b. stopped T || b) (not_stop (In event) special) ∙ or_nothing (stopped T)));
@@ -263,7 +267,7 @@ module _ {C : Type 0} {G : Ghosts C} (laws : Laws G.kind) where
       Steps core event before core before
   none_stands core event before sound none special T U s was f now =
       subst (λ W. Stands core W) (some_same (sym was ∙ now))
-      (missed_stands core T (served core).limits.children event sound s special f (missed core T (served core).limits.children event s f special none))
+      (missed_stands core T event sound s special f (missed core T (served core).limits.children event s f special none))
     where
       some_same : {A : Type 0} {a b : A} → Some a ≡ Some b → a ≡ b
       some_same e = cc
@@ -323,6 +327,7 @@ module _ {C : Type 0} {G : Ghosts C} (laws : Laws G.kind) where
             (own_between K laws site (λ j. false) (last + 1) (Accepted peer) (set ys last sv.now) T U (K.number_of x) st.turn owner m.between
             (ap (λ acts. are_of (K.number_of x) (children V (K.number_of x)) (start_count V) acts) st.is ∙ st.alone)
             (kept_slot site T peer st.turn.acts (ap (given (turns_away (accepted_count T))) st.is ∙ sv.gives.stays (accepted_count T)) room) s.between);
+        fit = subst (λ q. AtEachStep (HasFitting q) U) (sym new_site) (fit-more site T (Accepted peer) st.turn.acts U st.turn.grew f s.fit);
         accepted = fr.rest.accepted ∙ (sv.accepted ∙ (adds.accepted ∙ (ap (λ n. n + 1) s.accepted ∙ sym (st.accepted ∙ accepted_count-push T (In (Accepted peer))))));
         children = fr.rest.children ∙ st.count;
         stopped = fr.rest.stopped ∙ (sv.stopped ∙ (adds.stopped ∙ (s.stopped ∙ sym (ap stopped st.turn.grew ∙ (stopped-more T (Accepted peer) st.turn.acts ∙ or_nothing (stopped T))))));
@@ -391,6 +396,7 @@ module _ {C : Type 0} {G : Ghosts C} (laws : Laws G.kind) where
         lists = subst (λ q. Lists K q (conns new) U) (sym adds.site) (subst (λ ys. Lists K site ys U) (sym adds.kept) (subst (Lists K site xs) (sym grew) lists));
         between = subst (λ q. AtEachStep (BetweenGood q) U) (sym adds.site)
             (own_between K laws site (λ j. false) (length xs) (Accepted peer) xs T U n t refl b alone (turned_away site T peer old.accepted s.accepted no_room) s.between);
+        fit = subst (λ q. AtEachStep (HasFitting q) U) (sym adds.site) (fit-more site T (Accepted peer) acts U t.grew f s.fit);
         accepted = adds.accepted ∙ (ap (λ n. n + 1) s.accepted ∙ sym (ap accepted_count grew ∙ (mv.accepted ∙ count)));
         children = adds.children ∙ (s.children ∙ sym (ap start_count grew ∙ (mv.count ∙ start_count-next T (In (Accepted peer)))));
         stopped = adds.stopped ∙ (s.stopped ∙ sym (ap stopped t.grew ∙ (stopped-more T (Accepted peer) acts ∙ or_nothing (stopped T))));
@@ -496,6 +502,7 @@ module _ {C : Type 0} {G : Ghosts C} (laws : Laws G.kind) where
         held = subst (Each (λ x. K.needs x ≡ true)) (sym kept) (filter_passes K.needs (conns now));
         lists = subst (λ q. Lists K q (conns new) U) (sym new_site) (subst (λ xs. Lists K site xs U) (sym kept) (freed K laws site (conns now) U lists));
         between = subst (λ q. AtEachStep (BetweenGood q) U) (sym new_site) (common_between K laws site (λ j. leb i j) i event (conns now) T U r.turn (of_all secs T) (none_accepted secs) (common_heard secs T s.lists.between) s.between);
+        fit = subst (λ q. AtEachStep (HasFitting q) U) (sym new_site) (fit-more site T event r.turn.acts U r.turn.grew f s.fit);
         accepted = rest.accepted ∙ (same.accepted ∙ (n.accepted ∙ (s.accepted ∙ sym r.accepted_then)));
         children = rest.children ∙ r.count;
         stopped = rest.stopped ∙ (same.stopped ∙ (n.stopped ∙ (ap (λ b. b || is_stop (In event)) s.stopped ∙ sym (ap stopped r.turn.grew ∙ stopped-more T event r.turn.acts))));

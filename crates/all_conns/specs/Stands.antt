@@ -15,15 +15,17 @@ use Rattle.many_conns.specs.declared.connection.Connection.{Ghosts}
 use Rattle.many_conns.specs.Lists.{Lists}
 use Rattle.trace_model.specs.Good.{begins_with_event}
 use Rattle.trace_model.specs.Between.{BetweenGood}
+use Rattle.trace_laws.specs.Promised.{HasFitting}
 use Rattle.all_conns.specs.Owners.{IsRest, conns, served}
 use Rattle.all_conns.specs.declared.core_state.Core.{Core}
 
--- ---- the promise: each connection's part, read off its own list, and the part between connections
+-- ---- the promise: each connection's part, read off its own list, the part between connections, and that each event fits
 
 pub record Good {C : Type 0} (K : Kind C) (site : Site) (T : List Item) : Type 0 where
   pub begun : begins_with_event T ≡ true
   pub parts : (c : ℕ) → c < accepted_count T → AtEachStep (K.is_good site c) (own T c)
   pub between : AtEachStep (BetweenGood site) T
+  pub fit : AtEachStep (HasFitting site) T
 
 -- ---- what the core stands for
 
@@ -31,6 +33,7 @@ pub record Stands {C : Type 0} {G : Ghosts C} (core : Core C G) (T : List Item) 
   pub begun : begins_with_event T ≡ true
   pub lists : Lists G.kind (served core) (conns core) T
   pub between : AtEachStep (BetweenGood (served core)) T
+  pub fit : AtEachStep (HasFitting (served core)) T
   pub accepted : core.accepted ≡ accepted_count T
   pub children : core.children ≡ start_count T
   pub stopped : core.stopped ≡ stopped T

@@ -3,7 +3,7 @@ use Rattle.std.specs.Prelude.{ℕ, List, ◌≡◌, ◌^◌, ◌⊎◌, Option, 
 use Rattle.host_base.specs.Outsides.{Stored}
 use Rattle.host_base.specs.declared.site.Site.{Site}
 use Rattle.host_trace.specs.declared.items.Item.{Item}
-use Rattle.trace_model.specs.Good.{Good}
+use Rattle.trace_laws.specs.Promised.{Promised}
 use Rattle.host_loop.specs.Given.{GivesLoops}
 use Rattle.host_loop.specs.declared.serve.LoopEnd.{LoopEnd}
 use Rattle.host_loop.specs.declared.serve.LoopEnd.TheVariants.{Done as LoopDone, Spent as LoopSpent, NoMemory as LoopNoMemory}
@@ -14,10 +14,10 @@ use Rattle.host_run.specs.declared.words.Task.TheVariants.{Once, Serve, Check, U
 use Rattle.host_run.specs.declared.top.Status.{Status}
 use Rattle.host_run.specs.declared.top.Status.TheVariants.{Done, Usage, SiteRefused, SiteUnread, WorldRefused, Spent, ReportFault, NoMemory}
 
--- exactly so many traces were given back in this call, one for each loop: each is good for the site, and the loops, of so
--- many turns each, ended so
+-- exactly so many traces were given back in this call, one for each loop: of each is so what is
+-- promised for the site, and the loops, of so many turns each, ended so
 abbrev pub GivesTraces : Site → ℕ → ℕ → LoopEnd → Option (List (List Item)) → Option (List (List Item)) → Type 0
-GivesTraces site loops turns end before after = GivesLoops (Good site) turns loops (Ended end) before after
+GivesTraces site loops turns end before after = GivesLoops (Promised site) turns loops (Ended end) before after
 
 -- .. for a site of which this is so
 pub record IsServed (IsSite : Site → Type 0) (loops turns : ℕ) (end : LoopEnd) (before after : Option (List (List Item))) : Type 0 where

@@ -2,7 +2,7 @@
 ghost use Rattle.std.specs.Prelude.{◌≡◌, ◌≤◌, ◌^◌, All};
 ghost use Rattle.std.specs.List.{AllZip};
 ghost use Rattle.host_base.specs.SiteRules.{IsServed};
-ghost use Rattle.trace_model.specs.Good.{Good};
+ghost use Rattle.trace_laws.specs.Promised.{Promised};
 ghost use Rattle.host_loop.specs.Loops.{HasEnded, IsAny, IsFresh, WasTold, WhereTold};
 ghost use Rattle.host_loop.specs.Served.{Served};
 
@@ -27,7 +27,7 @@ pub fn serve_all<R: Threads + Sync, O: Outside + Send>(
     requires served { IsServed site.now }
     requires outs { All (λ o. IsFresh (O.trace o) × (O.limit o ≡ site.now.limits.children)) outs.old.items }
     ensures places { AllZip (λ o p. WasTold (O.trace o) (O.trace p)) outs.old.items outs.new.items }
-    ensures good { All (λ o. WhereTold (Good site.now) (O.trace o)) outs.new.items }
+    ensures good { All (λ o. WhereTold (Promised site.now) (O.trace o)) outs.new.items }
     ensures done { result ≡ LoopEnd.Done → All (λ o. WhereTold (Served turns LoopEnd.Done) (O.trace o)) outs.new.items }
     ensures spent { result ≡ LoopEnd.Spent → IsAny (λ o. WhereTold (Served turns LoopEnd.Spent) (O.trace o)) outs.new.items }
     ensures each { result ≡ LoopEnd.Spent → All (λ o. WhereTold (HasEnded turns) (O.trace o)) outs.new.items }

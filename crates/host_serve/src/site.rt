@@ -3,7 +3,7 @@ ghost use Rattle.std.specs.Prelude.{◌≡◌, ◌≤◌, ◌<◌, ◌^◌};
 ghost use Rattle.host_base.specs.Outsides.{Rose};
 ghost use Rattle.host_base.specs.SiteRules.{IsServed};
 ghost use Rattle.host_trace.specs.Entries.{Enters, entry_of};
-ghost use Rattle.trace_model.specs.Good.{Good};
+ghost use Rattle.trace_laws.specs.Promised.{Promised};
 ghost use Rattle.host_loop.specs.Given.{GivesLoops};
 
 use crate::all::serve_all;
@@ -16,7 +16,7 @@ use std::thread::Threads;
 /// Enters a world for so many loops over a site, serves its connections for so many turns of each loop at most, each of
 /// which hears one event, and gives its outsides back. Each of at most 16 loops runs in a thread of its own, a single one in
 /// that of the caller; of more some share a thread, and run one after the other. Every trace that the world tells of them is
-/// good, and the host was ready at each step's end, whatever its clients, children and clock did.
+/// good, each of its events fits, and the host was ready at each step's end, whatever its clients, children and clock did.
 pub fn serve_site<R: Threads + Sync, W: World>(
     rt: &R,
     alloc: Global,
@@ -30,7 +30,7 @@ pub fn serve_site<R: Threads + Sync, W: World>(
     requires once { mode ≡ Mode.Once → loops ≡ 1 }
     requires turns { turns ≤ 2 ^ 62 }
     requires served { IsServed site.now }
-    ensures gives { GivesLoops (Good site.now) turns loops result (W.given world.old) (W.given world.new) }
+    ensures gives { GivesLoops (Promised site.now) turns loops result (W.given world.old) (W.given world.new) }
     ensures entered { Enters (W.entries world.old) (entry_of mode site.now loops) (W.entries world.new) }
     ensures out { W.out world.new ≡ W.out world.old }
     ensures failed { result ≡ WorldEnd.Refused → Rose (W.faults world.old) (W.faults world.new) }

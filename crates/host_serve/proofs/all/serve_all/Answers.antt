@@ -4,7 +4,7 @@ use Rattle.std.proofs.lemmas.Grind.{common_steps}
 use Rattle.all_conns.specs.Stands.{Good}
 use Rattle.host_conns.specs.Host.{host_kind}
 use Rattle.host_loop.specs.Loops.{WasTold}
-use Rattle.host_serve.proofs.GoodLaws.{all_good}
+use Rattle.host_serve.proofs.GoodLaws.{all_promised}
 use Rattle.host_serve.proofs.LaneLaws.{ended_all, outs_kept, written}
 use Rattle.host_serve.proofs.PlaceLaws.{zip_same}
 use Rattle.host_serve.proofs.all.serve_all.Goals as goal
@@ -38,4 +38,4 @@ returns-clause-places g c =
     (rw c.as_mut_slice.ensures.value c.in-Ok.ensures.order) (written c.in-Ok.lanes.len after (drop (length after) c.in-Ok.lanes.items) all) c.empty.ensures.order
 
 pub returns-clause-good : goal.returns-clause-good
-returns-clause-good g c = all_good g.O.Outside.trace c.args.site.now c.empty.new.outs.items c.empty.ensures.good
+returns-clause-good g c = all_promised g.O.Outside.trace c.args.site.now c.empty.new.outs.items c.requires.served.limits c.empty.ensures.good

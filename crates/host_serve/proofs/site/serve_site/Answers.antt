@@ -2,7 +2,7 @@
 use Rattle.std.proofs.Common.{length, ◌≡◌, subst, sym, get_or, arith}
 use Rattle.std.specs.Prelude.{All}
 use Rattle.std.proofs.lemmas.List.Elements.{length_all_zip}
-use Rattle.trace_model.specs.Good.{Good}
+use Rattle.trace_laws.specs.Promised.{Promised}
 use Rattle.host_loop.specs.Loops.{IsFresh, WasTold}
 use Rattle.host_loop.proofs.GivenLaws.{gave_loops, new_is_fresh}
 use Rattle.host_serve.proofs.site.serve_site.Goals as goal
@@ -13,7 +13,7 @@ returns-clause-gives g c = λ now told.
     let outs = c.serve_all-end.new.outs.items in
     let same = length_all_zip (λ o p. WasTold (trace o) (trace p)) c.in-Ok.outs.items outs c.serve_all-end.ensures.places in
     let count : length outs ≡ c.args.loops = omega (arith, c.in-Ok.ensures.count, same) in
-    rw (← c.enter.ensures.given) (gave_loops (Good c.args.site.now) trace c.args.turns c.args.loops c.serve_all-end.result outs _ now count (record {
+    rw (← c.enter.ensures.given) (gave_loops (Promised c.args.site.now) trace c.args.turns c.args.loops c.serve_all-end.result outs _ now count (record {
       good = c.serve_all-end.ensures.good;
       done = c.serve_all-end.ensures.done;
       spent = c.serve_all-end.ensures.spent;

@@ -1,0 +1,11 @@
+pub mod FitLaws
+pub mod ListLaws
+pub mod PrefixLaws
+pub mod StartLaws
+pub mod CurrentLaws
+pub mod EndLaws
+pub mod VerdictLaws
+pub mod ActLaws
+pub mod TurnLaws
+pub mod ReapLaws
+pub mod UnsentLaws
