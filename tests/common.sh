@@ -19,6 +19,15 @@ bad() {
     echo "failed: $1"
 }
 
+# What came is what was wanted.
+same() {
+    if [ "$2" = "$3" ]; then
+        ok
+    else
+        bad "$1: $(head -c 300 <<<"$2"), where $(head -c 300 <<<"$3") was wanted"
+    fi
+}
+
 # Says what was counted, and fails where anything did.
 count() {
     echo "$passed passed, $failed failed"

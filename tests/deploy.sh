@@ -21,14 +21,6 @@ block() {
     ' "$root/docs/deploy.md"
 }
 
-same() {
-    if [ "$2" = "$3" ]; then
-        ok
-    else
-        bad "$1: $(head -c 300 <<<"$2"), where $(head -c 300 <<<"$3") was wanted"
-    fi
-}
-
 # ---- the installation: the program, the pages, the examples, and nothing else
 CGIHOST=$program "$root/packaging/install.sh" "$folder/prefix"
 {
@@ -39,7 +31,16 @@ CGIHOST=$program "$root/packaging/install.sh" "$folder/prefix"
 same 'what is installed' "$(cd prefix && find . -type f | sed 's|^\./||' | sort)" "$(cat wanted)"
 same 'the installed program' "$(prefix/bin/cgihost check prefix/share/doc/cgihost/examples/site.toml)" 'ok: 6 scripts'
 same 'an installed example may be run' "$([ -x prefix/share/doc/cgihost/examples/hello ] && echo yes)" yes
-same 'a prefix is wanted' "$("$root/packaging/install.sh" 2>&1)" 'usage: packaging/install.sh PREFIX'
+same 'a prefix is wanted' "$("$root/packaging/install.sh" 2>&1)" 'usage: packaging/install.sh [--uninstall] PREFIX'
+# .. and what was installed is taken away, and what isn't ours stays
+cp -R prefix other
+"$root/packaging/install.sh" --uninstall "$folder/other" || bad 'nothing was taken away'
+same 'what is left' "$(cd other && find . -type f)" ''
+same 'the folder of the examples' "$([ -e other/share/doc/cgihost ] && echo is there)" ''
+cp -R prefix/. other
+echo mine >other/share/doc/cgihost/examples/mine
+"$root/packaging/install.sh" --uninstall "$folder/other" 2>/dev/null || bad 'nothing was taken away beside a file of its own'
+same 'what is left beside it' "$(cd other && find . -type f)" ./share/doc/cgihost/examples/mine
 
 # ---- the units
 if command -v systemd-analyze >/dev/null; then
@@ -71,6 +72,35 @@ for _ in $(seq 500); do
 done
 echo drain >fifo
 ends 'drain by a FIFO' 0 10
+
+# ---- the wrapper for containers and supervisors: a signal drains, and a second one stops
+script slow 'sleep 3
+printf "Content-Type: text/plain\n\nslept\n"'
+wrapped() {
+    port=$(free_port)
+    "$program" upgrade "/slow=$folder/slow" | sed "s/^port = .*/port = $port/" >site
+    : >said
+    CGIHOST=$program "$root/packaging/cgihost-run" serve site >out 2>said &
+    server=$!
+    for _ in $(seq 500); do
+        grep -q listening said && break
+        sleep 0.02
+    done
+    curl -s -m 20 "http://127.0.0.1:$port/slow" >slept &
+    asked=$!
+    sleep 0.5
+    kill -TERM "$server"
+}
+wrapped
+wait "$asked"
+same 'what runs at a signal comes to its end' "$(cat slept)" slept
+ends 'the wrapper, drained' 0 10
+wrapped
+sleep 0.2
+kill -TERM "$server"
+ends 'the wrapper, stopped by a second signal' 0 2
+wait "$asked"
+same 'the wrapper gives the status on' "$(CGIHOST=$program "$root/packaging/cgihost-run" serve none 2>/dev/null; echo $?)" 4
 
 # ---- behind other servers
 script echoed 'printf "Content-Type: text/plain\n\n%s %s %s\n" "$HTTP_HOST" "$REMOTE_ADDR" "$HTTP_X_FORWARDED_FOR"

@@ -31,7 +31,7 @@ kept() {
 }
 
 # Compares what was written with what is wanted, and the status.
-same() {
+answers() {
     local name=$1 wanted_status=$2
     if [ "$status" != "$wanted_status" ]; then
         bad "$name: status $status, wanted $wanted_status"
@@ -52,7 +52,7 @@ run() {
 # The request in `in` is answered by what stands in `wanted`.
 gives() {
     run once "$2"
-    same "$1" 0
+    answers "$1" 0
 }
 
 # What stands behind the head of the reply in `out`, in the place of the reply.
@@ -87,7 +87,7 @@ gives 'a document' "$hello"
 { while IFS= read -r -n1 -d '' byte; do printf '%s' "$byte"; done <in; } |
     timeout 60 "$program" once "$hello" >out 2>err
 status=$?
-same 'a document, asked for in single bytes' 0
+answers 'a document, asked for in single bytes' 0
 
 # ---- what outputs derive (RFC 3875 section 6)
 get /said >in
@@ -306,10 +306,10 @@ head -c 1048550 /dev/zero | tr '\0' a >wanted
 run once "$cat"
 head -n 3 out | tr -d '\r' >first
 body
-if unchunk; then same 'a body of 1 MiB' 0; else bad 'a body of 1 MiB: no chunks'; fi
+if unchunk; then answers 'a body of 1 MiB' 0; else bad 'a body of 1 MiB: no chunks'; fi
 printf 'HTTP/1.1 200 OK\nContent-Type: text/plain\nTransfer-Encoding: chunked\n' >wanted
 mv first out
-same 'the head of its reply' 0
+answers 'the head of its reply' 0
 
 # ---- 100 Continue: before the body comes, and beside one that came
 head_of 'HTTP/1.1 100 Continue' >wanted
@@ -329,7 +329,7 @@ printf 'x=1' >&3
 exec 3>&- 4<&-
 wait $!
 status=$?
-same '100 Continue before its body' 0
+answers '100 Continue before its body' 0
 { post 'Content-Length: 0' 'Expect: 100-continue'; } >in
 { reply '200 OK' 2; printf '0:'; } >wanted
 gives 'no 100 Continue without a body' "$length"
@@ -483,7 +483,7 @@ for how in closed cut_off; do
     } | timeout 60 "$program" once site >out 2>err
     status=$?
     { accepted; [ "$how" = cut_off ] || printf '\x88\x02\x03\xe8'; } >wanted
-    same "a talk that is $how" 0
+    answers "a talk that is $how" 0
 done
 
 # ---- virtual hosts
@@ -571,7 +571,7 @@ END
 } >wanted
 run once "/environment=$folder/environment"
 body
-same 'the environment' 0
+answers 'the environment' 0
 
 # ---- nothing is open in a child but its three streams and what the shell itself opens, which is the script
 script descriptors 'printf "Content-Type: text/plain\n\n"
@@ -584,7 +584,7 @@ body
 sed -n '/descriptors$/!s/.* \([0-9]*\) -> .*/\1/p' out >seen
 mv seen out
 printf '0\n1\n2\n' >wanted
-same 'open descriptors' 0
+answers 'open descriptors' 0
 
 # ---- replies that are streamed: of more than 8,192 bytes of output, and no fewer
 of_length() {
@@ -601,10 +601,10 @@ for length in 8193 1048576; do
     head -n 5 out >first
     body
     mv text wanted
-    if unchunk; then same "an output of $length bytes" 0; else bad "an output of $length bytes: no chunks"; fi
+    if unchunk; then answers "an output of $length bytes" 0; else bad "an output of $length bytes: no chunks"; fi
     head_of 'HTTP/1.1 200 OK' 'Content-Type: text/plain' 'Transfer-Encoding: chunked' 'Connection: close' >wanted
     mv first out
-    same "the head of an output of $length bytes" 0
+    answers "the head of an output of $length bytes" 0
 done
 of_length 9000
 head_of 'GET /said HTTP/1.0' >in
@@ -630,7 +630,7 @@ wait $!
 status=$?
 body
 { cat text; echo end; } >wanted
-if unchunk; then same 'a streamed reply while its script runs' 0; else bad 'a streamed reply: no chunks'; fi
+if unchunk; then answers 'a streamed reply while its script runs' 0; else bad 'a streamed reply: no chunks'; fi
 
 # ---- a client that takes nothing
 of_length 1048576
@@ -639,7 +639,7 @@ get /said >in
 : >out
 timeout 60 "$program" once "$said" <in >/dev/full 2>err
 status=$?
-same 'standard output that takes nothing' 0
+answers 'standard output that takes nothing' 0
 
 # ---- the command line
 usage='cgihost: usage: once SITE, serve SITE, check SITE, explain SITE, sample SEED N, upgrade SITE'

@@ -6,14 +6,6 @@
 . "$(dirname "$0")/common.sh"
 
 # The names are the same text.
-same() {
-    if [ "$2" = "$3" ]; then
-        ok
-    else
-        bad "$1: $2, where $3 was wanted"
-    fi
-}
-
 for page in "$root"/docs/*.[15]; do
     name=$(basename "$page")
     if command -v man >/dev/null; then

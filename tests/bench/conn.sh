@@ -7,7 +7,7 @@
 set -eu
 export LC_ALL=C
 . "$(dirname "$0")/crates.sh"
-copy_crates conn_speed 'host_base host_trace reply_writer site_file conn_core'
+copy_crates conn_speed 'host_base host_trace reply_writer site_file http_conn'
 mkdir -p "$speed/proofs/drive"
 cat >"$speed/src/main.rt" <<'END'
 //! Events of one connection, that are handed to it, copied, or dropped.
@@ -18,7 +18,7 @@ ghost use Rattle.reply_writer.specs.WholeRules.{IsStamp};
 
 mod counter;
 
-use conn_core::{Conn, Onward, step};
+use http_conn::{Conn, Onward, step};
 use counter::Counter;
 use host_base::{Bytes, NoMemory, Peer, Site, Text};
 use host_trace::Event;
@@ -232,7 +232,7 @@ impl Outside for Counter {
 END
 cat >"$speed/proofs/drive/Invariants.antt" <<'END'
 use Rattle.host_base.specs.SiteRules.{IsServed}
-use Rattle.conn_core.specs.Kept.{site_of}
+use Rattle.http_conn.specs.Kept.{site_of}
 use Rattle.conn_speed.proofs.drive.Given as goal
 
 abbrev pub invariant-loop-event : goal.invariant-loop-event

@@ -14,7 +14,7 @@ use Rattle.host_trace.specs.Account.{start_refused}
 use Rattle.child_core.specs.View.{View, Note}
 use Rattle.child_core.specs.Calls.{may_come, fits_run}
 use Rattle.child_core.specs.Setting.{Setting}
-use Rattle.child_core.specs.Knows.{Knows, Admits, Offers}
+use Rattle.child_core.specs.Knows.{KnowsRun, Admits, Offers}
 use Rattle.child_core.proofs.EndLaws.{wanted_is}
 use Rattle.child_core.proofs.WordLaws.{start_answer_names, answer_names}
 
@@ -36,7 +36,7 @@ answered_is k (x ∷ L) = ap (λ b. is_start_answer k x || b) (answered_is k L) 
 le_room : (t u n m : ℕ) → t + u ≡ m → nat_le (t + n) m ≡ nat_le n u
 le_room t u n m e = grind (arith, nat_tests)
 
-module _ (early : Bool) (s : Setting) (v : View) (L : List Item) (k : Knows early s v L) where
+module _ (early : Bool) (s : Setting) (v : View) (L : List Item) (k : KnowsRun early s v L) where
   open_is : is_start_open L v.number ≡ not (v.started || v.refused)
   open_is = rw (answered_is v.number L, ← k.started, ← k.refused, k.begun) refl
 
@@ -98,7 +98,7 @@ module _ (early : Bool) (s : Setting) (v : View) (L : List Item) (n : Note) wher
   took_le true m f = f refl
   took_le false m f = omega arith
 
-  pub event-admits : Knows early s v L → (ev : Event) → fits s.limits.children L ev ≡ true → Offers s v L n (In ev) → Admits early s v L n (In ev)
+  pub event-admits : KnowsRun early s v L → (ev : Event) → fits s.limits.children L ev ≡ true → Offers s v L n (In ev) → Admits early s v L n (In ev)
   event-admits k (Started d) f o = event_with (Started d) o
       (λ e. not-true _ (sym (may_come_is early s v L k (Started d) (start_answer_names v.number (In (Started d)) e)) ∙ f))
       (λ e. absurd (cc)) (λ e. absurd (cc)) (λ e. absurd (cc)) (omega arith)

@@ -28,7 +28,7 @@ use Rattle.host_trace.proofs.FirstLaws.{last_of-append}
 use Rattle.child_core.specs.View.{View}
 use Rattle.child_core.specs.Calls.{fits_run}
 use Rattle.child_core.specs.Setting.{Setting, run_in}
-use Rattle.child_core.specs.Knows.{Knows, waited}
+use Rattle.child_core.specs.Knows.{KnowsRun, waited}
 use Rattle.child_core.specs.Tells.{behind}
 use Rattle.child_core.proofs.WordLaws.{none, none_count, start_names, started_names, start_answer_names, refusal_names, exited_names, input_names, output_names, kill_names, want_names, answer_names, eof_names, end_input_names}
 use Rattle.child_core.proofs.StartLaws.{none_in, none_turn, none_taken, undecided_before}
@@ -157,7 +157,7 @@ module _ (k : ℕ) (before : List Item) (fresh : list_any (names_child k) before
       (rw (any_behind (is_started k) before L (unseen is_started started_names), any_behind (is_exited k) before L (unseen is_exited exited_names)) refl) e
   fits_behind limit L ev e = absurd (cc)
 
-pub fits-behind : (early : Bool) (s : Setting) (v : View) (before L : List Item) → list_any (names_child v.number) before ≡ false → Knows early s v L → (ev : Event) → names_child v.number (In ev) ≡ true →
+pub fits-behind : (early : Bool) (s : Setting) (v : View) (before L : List Item) → list_any (names_child v.number) before ≡ false → KnowsRun early s v L → (ev : Event) → names_child v.number (In ev) ≡ true →
     fits_run v ev ≡ fits s.limits.children (before ++ L) ev
 fits-behind early s v before L fresh knows ev e = fits_is early s v L knows ev e ∙ sym (fits_behind v.number before fresh s.limits.children L ev e)
 
@@ -236,7 +236,7 @@ module _ (s : Setting) (v : View) (before : List Item) (fresh : list_any (names_
       | inr h ↦ rw (since_behind (is_child_eof v.number) before L (unseen v.number before fresh is_child_eof eof_names), h) refl
     ]
 
-    pub Knows-behind : (early : Bool) (L : List Item) → stopped before ≡ false → Knows early s v L → Knows early (behind before s) v (before ++ L)
+    pub Knows-behind : (early : Bool) (L : List Item) → stopped before ≡ false → KnowsRun early s v L → KnowsRun early (behind before s) v (before ++ L)
     Knows-behind early L going k =
         let d = decided_behind L in
         let begun : since (is_start v.number) (before ++ L) ≡ since (is_start v.number) L = since_behind (is_start v.number) before L unstarted in

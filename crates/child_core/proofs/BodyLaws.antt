@@ -21,7 +21,7 @@ use Rattle.trace_child.proofs.WordLaws.{each-push, implied, implies_from}
 use Rattle.child_core.specs.View.{View, Note, without, more_if, more_by, less_by, cleared}
 use Rattle.child_core.specs.Due.{is_fed_whole}
 use Rattle.child_core.specs.Setting.{Setting, run_in}
-use Rattle.child_core.specs.Knows.{Knows, Admits, IsFront}
+use Rattle.child_core.specs.Knows.{KnowsRun, Admits, IsFront}
 use Rattle.child_core.proofs.WordLaws.{more_if-counts, more_by-is, less_by-is}
 
 -- ---- the bytes
@@ -115,7 +115,7 @@ same_eq : (xs ys : List ℕ) → xs ≡ ys → bytes_eq xs ys ≡ true
 same_eq xs ys e = (bytes_eq-Decides xs ys).1 e
 
 -- the body was fed whole where it was heard whole
-module _ (early : Bool) (s : Setting) (v : View) (L : List Item) (n : Note) (x : Item) (k : Knows early s v L) (a : Admits early s v L n x) (ws : is_websocket v.kind ≡ false) where
+module _ (early : Bool) (s : Setting) (v : View) (L : List Item) (n : Note) (x : Item) (k : KnowsRun early s v L) (a : Admits early s v L n x) (ws : is_websocket v.kind ≡ false) where
   fed_at : (none : is_feed v.number x ≡ false) → (s.offered L).whole ≡ true → child_in L v.number ≡ (s.offered L).body → is_body_fed (run_in s v) (L ++ x ∷ []) ≡ true
   fed_at none whole same =
       let more : n.more ≡ [] = a.done ws whole in

@@ -28,7 +28,7 @@ use Rattle.child_core.specs.declared.ending.Outcome.{Outcome}
 use Rattle.child_core.specs.View.{View, plain, noted, is_output, is_other, asked_by}
 use Rattle.child_core.specs.Due.{is_fed_whole, is_left_alone, has_lingered, wants_input_end, wants_kill, wants_release, wants_output, is_feed_due, is_input_due, is_kill_due, is_release_due, is_ask_due, is_at_rest}
 use Rattle.child_core.specs.Setting.{Setting, run_in}
-use Rattle.child_core.specs.Knows.{Knows, one_if}
+use Rattle.child_core.specs.Knows.{KnowsRun, one_if}
 use Rattle.child_core.specs.Walk.{Walk, walked, Deserved}
 use Rattle.child_core.proofs.KnowsLaws.{Knows-noted}
 
@@ -51,7 +51,7 @@ asked_now : (a w : ℕ) (b : Bool) → w ≡ a + one_if b → nat_lt a w ≡ b
 asked_now a w true e = lt-ltb a w (omega arith)
 asked_now a w false e = grind (arith, nat_tests)
 
-module _ (early : Bool) (s : Setting) (v : View) (L : List Item) (k : Knows early s v L) where
+module _ (early : Bool) (s : Setting) (v : View) (L : List Item) (k : KnowsRun early s v L) where
   other_is : is_by_other (run_in s v) L ≡ is_other v.outcome
   other_is = rw (k.decided, k.by_output) refl
 
@@ -219,10 +219,10 @@ one_ask true false m n new e = omega arith
 one_ask false old m n new e = omega arith
 
 module _ (early : Bool) (s : Setting) where
-  pub Knows-walk : (v : View) (L : List Item) (acts : List Act) → Knows early s v L → Walk early s v L acts → Knows early s (walked s v acts) (L ++ map Out acts)
-  Knows-walk v L [] k w = subst (Knows early s v) (sym (append-nil L)) k
+  pub Knows-walk : (v : View) (L : List Item) (acts : List Act) → KnowsRun early s v L → Walk early s v L acts → KnowsRun early s (walked s v acts) (L ++ map Out acts)
+  Knows-walk v L [] k w = subst (KnowsRun early s v) (sym (append-nil L)) k
   Knows-walk v L (a ∷ acts) k w =
-      subst (Knows early s (walked s (noted s.conn v plain (Out a)) acts)) (append_assoc L (Out a ∷ []) (map Out acts))
+      subst (KnowsRun early s (walked s (noted s.conn v plain (Out a)) acts)) (append_assoc L (Out a ∷ []) (map Out acts))
       (Knows-walk (noted s.conn v plain (Out a)) (L ++ Out a ∷ []) acts (Knows-noted early s v L plain (Out a) k w.0.admits) w.1)
 
   same_number : (v : View) (acts : List Act) → (walked s v acts).number ≡ v.number
@@ -279,7 +279,7 @@ one_at_most : (b : Bool) (n : ℕ) → n ≡ one_if b → nat_le n 1 ≡ true
 one_at_most true n e = le-leb n 1 (omega arith)
 one_at_most false n e = le-leb n 1 (omega arith)
 
-module _ (s : Setting) (v : View) (L : List Item) (k : Knows false s v L) (may : Bool) (r : Rests may v) where
+module _ (s : Setting) (v : View) (L : List Item) (k : KnowsRun false s v L) (may : Bool) (r : Rests may v) where
   account_is : is_account L v.number ≡ true
   account_is = and_from _ _ (and_from _ _ (eq-eqb _ 1 k.starts) (one_at_most (v.started || v.refused) _ k.answers)) (one_at_most v.exited _ k.exits)
 
@@ -337,8 +337,8 @@ module _ (s : Setting) (v : View) (L : List Item) (k : Knows false s v L) (may :
 
 -- At the end of a step whose acts may each come when they come, at which nothing is due and what the step did to the
 -- child is wanted, all rules on the child hold. `early`: the connection found no memory, and its Shut stands in the step.
-pub good_at_end : (early may : Bool) (s : Setting) (w : View) (H : List Item) (acts : List Act) → Knows early s w H → Walk early s w H acts →
-    Knows false s (walked s w acts) (H ++ map Out acts) → is_at_rest may (walked s w acts) ≡ true → Deserved may w (walked s w acts) →
+pub good_at_end : (early may : Bool) (s : Setting) (w : View) (H : List Item) (acts : List Act) → KnowsRun early s w H → Walk early s w H acts →
+    KnowsRun false s (walked s w acts) (H ++ map Out acts) → is_at_rest may (walked s w acts) ≡ true → Deserved may w (walked s w acts) →
     ChildGood (run_in s (walked s w acts)) may H acts (H ++ map Out acts)
 good_at_end early may s w H acts k walk new rest deserved =
     let same = same_number early s w acts in

@@ -20,7 +20,7 @@ use Rattle.child_core.specs.declared.ending.Outcome.{Outcome}
 use Rattle.child_core.specs.declared.ending.Outcome.TheVariants.{Output, Failed, Gone, Stopped, Dropped}
 use Rattle.child_core.specs.View.{View, Note, noted, is_output, is_other, verdict, outcome_after, ticked, less_by, by_bytes, chosen}
 use Rattle.child_core.specs.Setting.{Setting, run_in}
-use Rattle.child_core.specs.Knows.{Knows, Admits, IsFront, one_if, is_given_up}
+use Rattle.child_core.specs.Knows.{KnowsRun, Admits, IsFront, one_if, is_given_up}
 use Rattle.child_core.proofs.WordLaws.{any-push, any-stays, any-new, since_begun, since_first, once-push, asked-push, apart, less_by-is, ticked-is}
 use Rattle.child_core.proofs.DecideLaws.{Counts, Stands, Stands-push, row_is, verdict_reads}
 
@@ -34,7 +34,7 @@ or_none (Some x) w e = absurd (cc)
 
 -- ---- counts
 
-counts_of : (early : Bool) (s : Setting) (v : View) (L : List Item) (n : Note) (x : Item) → Knows early s v L → Admits early s v L n x → is_some v.outcome ≡ false → Counts s v n L x
+counts_of : (early : Bool) (s : Setting) (v : View) (L : List Item) (n : Note) (x : Item) → KnowsRun early s v L → Admits early s v L n x → is_some v.outcome ≡ false → Counts s v n L x
 counts_of early s v L n x k a u = record {
   left = λ _. k.output_left;
   within = k.within u;
@@ -159,19 +159,13 @@ eof_push k L x None w old new out = any-new (is_child_eof k) L x (new out)
 given_up_stays : (o w : Option Outcome) (ends was : Bool) → (is_other o || is_output o && was) ≡ true →
     (is_other (or_else o w) || is_output (or_else o w) && (not (not (is_some o) && is_output w) && (ends || was))) ≡ true
 given_up_stays (Some Output) w ends was e = or_right ends was e
-given_up_stays (Some (Failed cause)) w ends was e = refl
-given_up_stays (Some Gone) w ends was e = refl
-given_up_stays (Some Stopped) w ends was e = refl
-given_up_stays (Some Dropped) w ends was e = refl
 given_up_stays None w ends was e = absurd (cc)
+given_up_stays (Some _) w ends was e = refl
 
 stopped_now : (o : Option Outcome) (was : Bool) → (is_other (or_else o (Some Stopped)) || is_output (or_else o (Some Stopped)) && (not (not (is_some o) && false) && (true || was))) ≡ true
 stopped_now (Some Output) was = refl
-stopped_now (Some (Failed cause)) was = refl
-stopped_now (Some Gone) was = refl
-stopped_now (Some Stopped) was = refl
-stopped_now (Some Dropped) was = refl
 stopped_now None was = refl
+stopped_now (Some _) was = refl
 
 by_stop : (c : ℕ) (v : View) (n : Note) (x : Item) → is_stop x ≡ true → is_given_up (noted c v n x) ≡ true
 by_stop c v n (In Stop) e = stopped_now v.outcome v.abandoned
@@ -212,7 +206,7 @@ answers_are k x started refused = go (is_started k x) (is_start_failed k x) (is_
     go false false true false r = refl
     go false false false s r = refl
 
-module _ (early : Bool) (s : Setting) (v : View) (L : List Item) (n : Note) (x : Item) (k : Knows early s v L) (a : Admits early s v L n x) where
+module _ (early : Bool) (s : Setting) (v : View) (L : List Item) (n : Note) (x : Item) (k : KnowsRun early s v L) (a : Admits early s v L n x) where
   rules : is_some v.outcome ≡ false → decides_run (run_in s v) L x ≡ is_some (verdict s.conn v n x)
   rules u = row_is s v n L x (counts_of early s v L n x k a u) k.begun
 
@@ -246,7 +240,7 @@ module _ (early : Bool) (s : Setting) (v : View) (L : List Item) (n : Note) (x :
   ]
 
   -- a run that notes an item knows it
-  pub Knows-noted : Knows early s (noted s.conn v n x) (L ++ x ∷ [])
+  pub Knows-noted : KnowsRun early s (noted s.conn v n x) (L ++ x ∷ [])
   Knows-noted = record {
     book = k.book;
     lingers = k.lingers;

@@ -1,4 +1,4 @@
--- The acts of a run one by one, and the step in which memory was wanting.
+-- The acts of a run one by one, and the step in which memory ran out.
 use Rattle.std.proofs.Common.{◌≤◌, zero, suc, length, take, drop, ◌≡◌, ℕ, arith, List, [], ◌∷◌, ◌++◌, Bool, true, false, ◌||◌, ◌&&◌, refl, sym, ◌∙◌, ap, Option, Some, None, append_assoc, subst, inl, inr, map}
 use Rattle.std.specs.Prelude.{min, if◌then◌else◌, ◌==◌, not, is_some}
 use Rattle.std.specs.List.{list_any}
@@ -27,7 +27,7 @@ use Rattle.child_core.specs.View.{View, Note, plain, noted, is_output, is_other,
 use Rattle.child_core.specs.Calls.{ended}
 use Rattle.child_core.specs.Due.{Due, Path, given, after, is_feed_due, is_input_due, is_kill_due, is_release_due, is_ask_due, wants_input_end, wants_kill, wants_release, wants_output, is_at_rest, piece_len, piece_of, feeding, feed_given, input_given, kill_given, release_given, acting, acted}
 use Rattle.child_core.specs.Setting.{Setting, run_in}
-use Rattle.child_core.specs.Knows.{Knows, Admits}
+use Rattle.child_core.specs.Knows.{KnowsRun, Admits}
 use Rattle.child_core.specs.Walk.{MayAct, Walk, walked, Deserved}
 use Rattle.child_core.specs.Laws.{IsStill}
 use Rattle.child_core.specs.Memory.{AreDue, Piece, last_acts}
@@ -118,7 +118,7 @@ piece-front v = record {
     front_of (suc m) [] = refl
     front_of (suc m) (b ∷ u) = ap (λ l. b ∷ l) (front_of m u)
 
-pub due-may : (early : Bool) (s : Setting) → IsStill s → (may : Bool) (v : View) (L : List Item) (act : Act) → Knows early s v L → Due may v act → MayAct early s v L act
+pub due-may : (early : Bool) (s : Setting) → IsStill s → (may : Bool) (v : View) (L : List Item) (act : Act) → KnowsRun early s v L → Due may v act → MayAct early s v L act
 due-may early s still may v L (Feed k bytes) knows due = subst (λ a. MayAct early s v L a) (ap (λ j. Feed j (piece_of v)) (sym due.0) ∙ ap (λ b. Feed k b) (sym due.1)) (may_feed early s still v L knows due.2)
 due-may early s still may v L (EndInput k) knows due = subst (λ j. MayAct early s v L (EndInput j)) (sym due.0) (may_end early s still v L knows due.1)
 due-may early s still may v L (Kill k) knows due = subst (λ j. MayAct early s v L (Kill j)) (sym due.0) (may_kill early s still v L knows due.1)
@@ -133,8 +133,8 @@ owes_nothing a b true e = ap (λ t. implies t b) (and_false a)
 owes_nothing a b false e = absurd (cc)
 
 -- what is known but for what is owed, and what is owed
-with_owes : (early later : Bool) (s : Setting) (v : View) (L : List Item) → Knows early s v L →
-    (later ≡ false → is_websocket v.kind ≡ false → implies (owes_whole (run_in s v) L) (is_body_fed (run_in s v) L) ≡ true) → Knows later s v L
+with_owes : (early later : Bool) (s : Setting) (v : View) (L : List Item) → KnowsRun early s v L →
+    (later ≡ false → is_websocket v.kind ≡ false → implies (owes_whole (run_in s v) L) (is_body_fed (run_in s v) L) ≡ true) → KnowsRun later s v L
 with_owes early later s v L k owes = record {
   book = k.book;
   lingers = k.lingers;
@@ -169,10 +169,10 @@ with_owes early later s v L k owes = record {
   owes = owes;
 }
 
-pub knows-early : (early : Bool) (s : Setting) (v : View) (L : List Item) → Knows false s v L → Knows early s v L
+pub knows-early : (early : Bool) (s : Setting) (v : View) (L : List Item) → KnowsRun false s v L → KnowsRun early s v L
 knows-early early s v L k = with_owes false early s v L k (λ _ ws. k.owes refl ws)
 
-pub knows-shut : (early : Bool) (s : Setting) (v : View) (L : List Item) → shut_for_memory L s.conn ≡ true → Knows early s v L → Knows false s v L
+pub knows-shut : (early : Bool) (s : Setting) (v : View) (L : List Item) → shut_for_memory L s.conn ≡ true → KnowsRun early s v L → KnowsRun false s v L
 knows-shut early s v L shut k = with_owes early false s v L k
     (λ _ ws. owes_nothing (list_any (is_end_input v.number) L && not (is_excused (run_in s v) L)) (is_body_fed (run_in s v) L) (shut_for_memory L s.conn) shut)
 
@@ -213,7 +213,7 @@ some_ended (Some d) = refl
 some_ended None = refl
 
 module _ (s : Setting) (still : IsStill s) where
-  last_with : (v : View) (L : List Item) (a : Act) → Knows true s v L → is_start v.number (Out a) ≡ false → is_want_child v.number (Out a) ≡ false → is_feed v.number (Out a) ≡ false →
+  last_with : (v : View) (L : List Item) (a : Act) → KnowsRun true s v L → is_start v.number (Out a) ≡ false → is_want_child v.number (Out a) ≡ false → is_feed v.number (Out a) ≡ false →
       input_fed v.number (Out a) ≡ [] → Admits true s v L plain (Out a)
   last_with v L a k start want feed fed_none =
       let o = still-offers true s v L a still k in
@@ -236,7 +236,7 @@ module _ (s : Setting) (still : IsStill s) where
         talk = o.talk;
       }
 
-  pub ended-may : (may : Bool) (v : View) (L : List Item) (act : Act) → Knows true s v L → Due may (ended v Dropped) act → MayAct true s v L act
+  pub ended-may : (may : Bool) (v : View) (L : List Item) (act : Act) → KnowsRun true s v L → Due may (ended v Dropped) act → MayAct true s v L act
   ended-may may v L (Feed k bytes) knows due =
       absurd (let p = and_parts _ (v.untaken == 0) due.2 in false≢true (and_parts (v.started && not (is_some (or_else v.outcome (Some Ended.Dropped))) && not v.exited && not v.input_ended) false p.0).1)
   ended-may may v L (EndInput k) knows due = record {
@@ -275,7 +275,7 @@ module _ (s : Setting) (still : IsStill s) where
   same_conn may u v (WantChild k) due = refl
   same_conn may u v a due = absurd due
 
-  ended-walk : (may : Bool) (v : View) (L : List Item) (acts : List Act) → Knows true s v L → Path may (ended v Dropped) acts →
+  ended-walk : (may : Bool) (v : View) (L : List Item) (acts : List Act) → KnowsRun true s v L → Path may (ended v Dropped) acts →
       Walk true s v L acts × (ended (walked s v acts) Dropped ≡ after (ended v Dropped) acts)
   ended-walk may v L [] knows p = (tt, refl)
   ended-walk may v L (a ∷ acts) knows p =
@@ -288,9 +288,9 @@ module _ (s : Setting) (still : IsStill s) where
   record Last (may : Bool) (v : View) (L : List Item) : Type 0 where
     walk : Walk true s v L (last_acts may s v)
     is : walked s v (last_acts may s v) ≡ acted may (ended v Dropped)
-    known : Knows false s (acted may (ended v Dropped)) (L ++ map Out (last_acts may s v))
+    known : KnowsRun false s (acted may (ended v Dropped)) (L ++ map Out (last_acts may s v))
 
-  last : (may : Bool) (v : View) (L : List Item) → Knows true s v L → Last may v L
+  last : (may : Bool) (v : View) (L : List Item) → KnowsRun true s v L → Last may v L
   last may v L knows =
       let r : View = ended v Dropped in
       let more : List Act = acting may r in
@@ -299,20 +299,20 @@ module _ (s : Setting) (still : IsStill s) where
       let w = ended-walk may v L more knows due.path in
       let u : View = walked s v more in
       let M : List Item = L ++ map Out more in
-      let ku : Knows true s u M = Knows-walk true s v L more knows w.0 in
+      let ku : KnowsRun true s u M = Knows-walk true s v L more knows w.0 in
       let admits : Admits true s u M plain (Out shut) = other-admits true s u M plain (Out shut) refl (still-offers true s u M shut still ku) in
       let act : MayAct true s u M shut = record { admits = admits; input = λ e. absurd (cc); kill = λ e. absurd (cc); release = λ e. absurd (cc) } in
       let z : noted s.conn u plain (Out shut) ≡ acted may r = memory-is s.conn u ∙ (w.1 ∙ due.after_is) in
-      let kz : Knows true s (acted may r) (M ++ Out shut ∷ []) = subst (λ x. Knows true s x (M ++ Out shut ∷ [])) z (Knows-noted true s u M plain (Out shut) ku admits) in
+      let kz : KnowsRun true s (acted may r) (M ++ Out shut ∷ []) = subst (λ x. KnowsRun true s x (M ++ Out shut ∷ [])) z (Knows-noted true s u M plain (Out shut) ku admits) in
       let stands : shut_for_memory (M ++ Out shut ∷ []) s.conn ≡ true = shut_for_memory-push M (Out shut) s.conn ∙ or_right (shut_for_memory M s.conn) _ (rw (eq-eqb s.conn s.conn refl) refl) in
       let items : M ++ Out shut ∷ [] ≡ L ++ map Out (more ++ shut ∷ []) = append_assoc L (map Out more) (Out shut ∷ []) ∙ ap (λ (l : List Item). L ++ l) (sym (map-append Out more (shut ∷ []))) in
       record {
         walk = walk_append true s still v L more (shut ∷ []) w.0 (act, tt);
         is = walked-append s v more (shut ∷ []) ∙ z;
-        known = subst (Knows false s (acted may r)) items (knows-shut true s (acted may r) (M ++ Out shut ∷ []) stands kz);
+        known = subst (KnowsRun false s (acted may r)) items (knows-shut true s (acted may r) (M ++ Out shut ∷ []) stands kz);
       }
 
-pub ended-known : (early : Bool) (s : Setting) → IsStill s → (may : Bool) (v : View) (L : List Item) → Knows early s v L → Knows false s (acted may (ended v Dropped)) (L ++ map Out (last_acts may s v))
+pub ended-known : (early : Bool) (s : Setting) → IsStill s → (may : Bool) (v : View) (L : List Item) → KnowsRun early s v L → KnowsRun false s (acted may (ended v Dropped)) (L ++ map Out (last_acts may s v))
 ended-known early s still may v L k = (last s still may v L (with_owes early true s v L k (λ e. absurd (false≢true (sym e))))).known
 
 -- ---- all rules on the child at the end of the step
@@ -398,18 +398,18 @@ ended-deserved may w v d asked = record {
   ];
 }
 
-pub ended-good : (s : Setting) → IsStill s → (may : Bool) (w : View) (H : List Item) (acts : List Act) → Knows false s w H → Walk false s w H acts → Deserved may w (walked s w acts) →
+pub ended-good : (s : Setting) → IsStill s → (may : Bool) (w : View) (H : List Item) (acts : List Act) → KnowsRun false s w H → Walk false s w H acts → Deserved may w (walked s w acts) →
     ((walked s w acts).asked ≡ true → w.asked ≡ true) → ChildGood (run_in s w) may H (acts ++ last_acts may s (walked s w acts)) (H ++ map Out (acts ++ last_acts may s (walked s w acts)))
 ended-good s still may w H acts k walk d asked =
     let v : View = walked s w acts in
     let L : List Item = H ++ map Out acts in
     let final : List Act = last_acts may s v in
-    let kv : Knows false s v L = Knows-walk false s w H acts k walk in
+    let kv : KnowsRun false s v L = Knows-walk false s w H acts k walk in
     let l : Last s still may v L = last s still may v L (knows-early true s v L kv) in
     let z : walked s w (acts ++ final) ≡ acted may (ended v Dropped) = walked-append s w acts final ∙ l.is in
     let items : L ++ map Out final ≡ H ++ map Out (acts ++ final) = append_assoc H (map Out acts) (map Out final) ∙ ap (λ (m : List Item). H ++ m) (sym (map-append Out acts final)) in
-    let known : Knows false s (walked s w (acts ++ final)) (H ++ map Out (acts ++ final)) =
-    subst (λ u. Knows false s u (H ++ map Out (acts ++ final))) (sym z) (subst (Knows false s (acted may (ended v Dropped))) items l.known) in
+    let known : KnowsRun false s (walked s w (acts ++ final)) (H ++ map Out (acts ++ final)) =
+    subst (λ u. KnowsRun false s u (H ++ map Out (acts ++ final))) (sym z) (subst (KnowsRun false s (acted may (ended v Dropped))) items l.known) in
     subst (λ run. ChildGood run may H (acts ++ final) (H ++ map Out (acts ++ final))) (same_run s w (acts ++ final))
     (good_at_end true may s w H (acts ++ final) (knows-early true s w H k) (walk_append true s still w H acts final (walk_early s w H acts walk) l.walk) known
     (subst (λ u. is_at_rest may u ≡ true) (sym z) (acted-rest may (ended v Dropped)))
@@ -421,7 +421,7 @@ filled_of : (u : List ℕ) → 1 ≤ length u → is_filled u ≡ true
 filled_of [] le = absurd (omega (arith, le))
 filled_of (b ∷ u) le = refl
 
-module _ (early : Bool) (s : Setting) (v : View) (L : List Item) (k : Knows early s v L) where
+module _ (early : Bool) (s : Setting) (v : View) (L : List Item) (k : KnowsRun early s v L) where
   feed_form : v.started ≡ true → v.input_ended ≡ false → is_filled (piece_of v) ≡ true → may_be_given L (Feed v.number (piece_of v)) ≡ true
   feed_form st i full = and_from _ _ (and_from _ _ (sym k.started ∙ st) (ap not (sym k.input_ended ∙ i))) full
 

@@ -158,18 +158,12 @@ holds-drained v handed L h = elim (cases_Bool (drops_output v.kind v.outcome)) [
 
 never_output : (ending : Ending) → is_other (Some (outcome_of_ending ending)) ≡ true
 never_output GoneEnding = refl
-never_output StoppedEnding = refl
-never_output DroppedEnding = refl
-never_output Refused = refl
-never_output Incomplete = refl
+never_output _ = refl
 
 by_output : (kind : ScriptKind) (o : Option Outcome) (d : Outcome) → is_other (Some d) ≡ true → drops_output kind (or_else o (Some d)) ≡ false → is_output o ≡ true
 by_output kind None d e f = absurd (false≢true (sym f ∙ or_right (is_websocket kind) _ e))
 by_output kind (Some Output) d e f = refl
-by_output kind (Some (Failed cause)) d e f = absurd (false≢true (sym f ∙ or_right (is_websocket kind) true refl))
-by_output kind (Some Gone) d e f = absurd (false≢true (sym f ∙ or_right (is_websocket kind) true refl))
-by_output kind (Some Stopped) d e f = absurd (false≢true (sym f ∙ or_right (is_websocket kind) true refl))
-by_output kind (Some Dropped) d e f = absurd (false≢true (sym f ∙ or_right (is_websocket kind) true refl))
+by_output kind (Some _) d e f = absurd (false≢true (sym f ∙ or_right (is_websocket kind) true refl))
 
 pub holds-ended : (lost : Bool) (v : View) (handed : List ℕ) (L : List Item) (ending : Ending) → (lost ≡ true → is_output v.outcome ≡ false) → HoldsOutput lost v handed L →
     HoldsOutput false (ended v ending) handed L

@@ -22,7 +22,7 @@ use Rattle.trace_child.specs.Bodies.{is_fed_in_turn}
 use Rattle.trace_child.proofs.WordLaws.{each-push}
 use Rattle.child_core.specs.Laws.{just_begun}
 use Rattle.child_core.specs.Setting.{Setting, run_in}
-use Rattle.child_core.specs.Knows.{Knows}
+use Rattle.child_core.specs.Knows.{KnowsRun}
 use Rattle.child_core.proofs.WordLaws.{none, none_count, since_first, start_names, started_names, start_answer_names, refusal_names, exited_names, input_names, output_names, kill_names, want_names, answer_names, end_input_names, no_input, no_took}
 use Rattle.child_core.proofs.DecideLaws.{at_pushed}
 
@@ -81,7 +81,7 @@ module _ (s : Setting) (k : ℕ) (kind : ScriptKind) (body : List ℕ) (whole : 
   count_none : (test : Item → Bool) → ((y : Item) → test y ≡ true → names_child k y ≡ true) → test (Out (Start k d j hop launch)) ≡ false → count_by test (L ++ Out (Start k d j hop launch) ∷ []) ≡ 0
   count_none test names not_it = count_by-push test L (Out (Start k d j hop launch)) ∙ rw (none_count test 0 L (none test k L names fresh), not_it) refl
 
-  pub Knows-start : Knows false s (just_begun s k kind body whole) (L ++ Out (Start k d j hop launch) ∷ [])
+  pub Knows-start : KnowsRun false s (just_begun s k kind body whole) (L ++ Out (Start k d j hop launch) ∷ [])
   Knows-start = record {
     book = refl;
     lingers = refl;

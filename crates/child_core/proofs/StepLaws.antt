@@ -15,14 +15,14 @@ use Rattle.trace_child.specs.ChildGood.{ChildGood}
 use Rattle.child_core.specs.View.{View, plain, noted, without}
 use Rattle.child_core.specs.Due.{is_feed_due, is_input_due, is_kill_due, is_release_due, is_ask_due, wants_input_end, wants_kill, wants_release, wants_output, is_at_rest, piece_of, feeding, feed_given, input_given, kill_given, release_given, acting, acted}
 use Rattle.child_core.specs.Setting.{Setting, run_in}
-use Rattle.child_core.specs.Knows.{Knows, Admits}
+use Rattle.child_core.specs.Knows.{KnowsRun, Admits}
 use Rattle.child_core.specs.Walk.{MayAct, Walk, walked, Deserved}
 use Rattle.child_core.specs.Laws.{IsStill}
 use Rattle.child_core.proofs.EndLaws.{Knows-walk, good_at_end}
 use Rattle.child_core.proofs.ActLaws.{and_false, piece_rest, piece_is, given_feed, given_input, given_kill, given_release, walked-append, walked-acting, acted-rest, acted-deserved}
 
 module _ (early : Bool) (s : Setting) (still : IsStill s) where
-  act_with : (v : View) (L : List Item) (a : Act) → Knows early s v L → is_start v.number (Out a) ≡ false → (is_want_child v.number (Out a) ≡ true → v.asked ≡ false) →
+  act_with : (v : View) (L : List Item) (a : Act) → KnowsRun early s v L → is_start v.number (Out a) ≡ false → (is_want_child v.number (Out a) ≡ true → v.asked ≡ false) →
       (is_feed v.number (Out a) ≡ true → (is_some v.outcome || v.input_ended) ≡ false) → input_fed v.number (Out a) ++ without (input_fed v.number (Out a)) v.unfed ≡ v.unfed →
       (is_websocket v.kind ≡ false → is_feed v.number (Out a) ≡ true → (v.untaken ≡ 0) × (is_piece (input_fed v.number (Out a)) ≡ true)) →
       (is_end_input v.number (Out a) ≡ true → wants_input_end v ≡ true) → Admits early s v L plain (Out a)
@@ -45,7 +45,7 @@ module _ (early : Bool) (s : Setting) (still : IsStill s) where
     talk = λ w. ap (λ o. o.whole) (still L a) ∙ k.talk w;
   }
 
-  pub may_feed : (v : View) (L : List Item) → Knows early s v L → is_feed_due v ≡ true → MayAct early s v L (Feed v.number (piece_of v))
+  pub may_feed : (v : View) (L : List Item) → KnowsRun early s v L → is_feed_due v ≡ true → MayAct early s v L (Feed v.number (piece_of v))
   may_feed v L k due =
       let p = and_parts (v.started && not (is_some v.outcome) && not v.exited && not v.input_ended && is_filled v.unfed) (v.untaken == 0) due in
       let q = and_parts (v.started && not (is_some v.outcome) && not v.exited && not v.input_ended) (is_filled v.unfed) p.0 in
@@ -62,7 +62,7 @@ module _ (early : Bool) (s : Setting) (still : IsStill s) where
         release = λ e. absurd (cc);
       }
 
-  pub may_end : (v : View) (L : List Item) → Knows early s v L → is_input_due v ≡ true → MayAct early s v L (EndInput v.number)
+  pub may_end : (v : View) (L : List Item) → KnowsRun early s v L → is_input_due v ≡ true → MayAct early s v L (EndInput v.number)
   may_end v L k due =
       let p = and_parts (wants_input_end v) (not v.input_ended) due in
       record {
@@ -72,7 +72,7 @@ module _ (early : Bool) (s : Setting) (still : IsStill s) where
         release = λ e. absurd (cc);
       }
 
-  pub may_kill : (v : View) (L : List Item) → Knows early s v L → is_kill_due v ≡ true → MayAct early s v L (Kill v.number)
+  pub may_kill : (v : View) (L : List Item) → KnowsRun early s v L → is_kill_due v ≡ true → MayAct early s v L (Kill v.number)
   may_kill v L k due = record {
     admits = act_with v L (Kill v.number) k refl (λ e. absurd (cc)) (λ e. absurd (cc)) refl (λ ws e. absurd (cc)) (λ e. absurd (cc));
     input = λ e. absurd (cc);
@@ -80,7 +80,7 @@ module _ (early : Bool) (s : Setting) (still : IsStill s) where
     release = λ e. absurd (cc);
   }
 
-  pub may_release : (v : View) (L : List Item) → Knows early s v L → is_release_due v ≡ true → MayAct early s v L (Release v.number)
+  pub may_release : (v : View) (L : List Item) → KnowsRun early s v L → is_release_due v ≡ true → MayAct early s v L (Release v.number)
   may_release v L k due = record {
     admits = act_with v L (Release v.number) k refl (λ e. absurd (cc)) (λ e. absurd (cc)) refl (λ ws e. absurd (cc)) (λ e. absurd (cc));
     input = λ e. absurd (cc);
@@ -88,7 +88,7 @@ module _ (early : Bool) (s : Setting) (still : IsStill s) where
     release = λ _. not-true _ (and_parts (wants_release v) (not v.output_ended) due).1;
   }
 
-  pub may_ask : (may : Bool) (v : View) (L : List Item) → Knows early s v L → is_ask_due may v ≡ true → MayAct early s v L (WantChild v.number)
+  pub may_ask : (may : Bool) (v : View) (L : List Item) → KnowsRun early s v L → is_ask_due may v ≡ true → MayAct early s v L (WantChild v.number)
   may_ask may v L k due = record {
     admits = act_with v L (WantChild v.number) k refl (λ _. not-true _ (and_parts (wants_output may v) (not v.asked) due).1) (λ e. absurd (cc)) refl (λ ws e. absurd (cc)) (λ e. absurd (cc));
     input = λ e. absurd (cc);
@@ -106,13 +106,13 @@ module _ (early : Bool) (s : Setting) (still : IsStill s) where
       (p.0, walk_append (noted s.conn v plain (Out a)) (L ++ Out a ∷ []) xs ys p.1 (subst (λ l. Walk early s (walked s v (a ∷ xs)) l ys) (sym (append_assoc L (Out a ∷ []) (map Out xs))) q))
 
   -- one more act, where it is due
-  walk_more : (v u : View) (L : List Item) (xs : List Act) (t : Bool) (a : Act) → Knows early s v L → Walk early s v L xs → walked s v xs ≡ u →
-      ((M : List Item) → Knows early s u M → t ≡ true → MayAct early s u M a) → Walk early s v L (xs ++ when t a)
+  walk_more : (v u : View) (L : List Item) (xs : List Act) (t : Bool) (a : Act) → KnowsRun early s v L → Walk early s v L xs → walked s v xs ≡ u →
+      ((M : List Item) → KnowsRun early s u M → t ≡ true → MayAct early s u M a) → Walk early s v L (xs ++ when t a)
   walk_more v u L xs t a k p e f =
-      let known : Knows early s u (L ++ map Out xs) = subst (λ w. Knows early s w (L ++ map Out xs)) e (Knows-walk early s v L xs k p) in
+      let known : KnowsRun early s u (L ++ map Out xs) = subst (λ w. KnowsRun early s w (L ++ map Out xs)) e (Knows-walk early s v L xs k p) in
       walk_append v L xs (when t a) p (subst (λ w. Walk early s w (L ++ map Out xs) (when t a)) (sym e) (walk_when u (L ++ map Out xs) t a (f (L ++ map Out xs) known)))
 
-  pub walk-acting : (may : Bool) (v : View) (L : List Item) → Knows early s v L → Walk early s v L (acting may v)
+  pub walk-acting : (may : Bool) (v : View) (L : List Item) → KnowsRun early s v L → Walk early s v L (acting may v)
   unfolding acting
   walk-acting may v L k =
       let v1 = feed_given v in
@@ -134,7 +134,7 @@ module _ (early : Bool) (s : Setting) (still : IsStill s) where
       walk_more v v4 L (w1 ++ w2 ++ w3 ++ w4) (is_ask_due may v4) (WantChild v.number) k p4 e4 (λ M m. may_ask may v4 M m)
 
 -- with the acts of a run that its list knows, all rules on its child hold
-pub good-acting : (s : Setting) → IsStill s → (may : Bool) (v : View) (H : List Item) → Knows false s v H → ChildGood (run_in s (acted may v)) may H (acting may v) (H ++ map Out (acting may v))
+pub good-acting : (s : Setting) → IsStill s → (may : Bool) (v : View) (H : List Item) → KnowsRun false s v H → ChildGood (run_in s (acted may v)) may H (acting may v) (H ++ map Out (acting may v))
 good-acting s still may v H k =
     let w = walk-acting false s still may v H k in
     let e = walked-acting s may v in

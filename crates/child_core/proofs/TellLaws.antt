@@ -17,7 +17,7 @@ use Rattle.trace_child.specs.ChildDemands.{is_all_taken}
 use Rattle.child_core.specs.View.{View, Note, plain, noted, verdict, by_bytes}
 use Rattle.child_core.specs.Calls.{fits_run, is_settled}
 use Rattle.child_core.specs.Setting.{Setting}
-use Rattle.child_core.specs.Knows.{Knows, Admits, Offers}
+use Rattle.child_core.specs.Knows.{KnowsRun, Admits, Offers}
 use Rattle.child_core.specs.Laws.{IsStill}
 use Rattle.child_core.specs.Tells.{WantsAreExact, concerns}
 use Rattle.child_core.proofs.WordLaws.{contra, start_names, started_names, start_answer_names, refusal_names, exited_names, input_names, output_names, kill_names, want_names, answer_names, eof_names, feed_names, end_input_names, no_output, no_input, no_took}
@@ -27,13 +27,13 @@ use Rattle.child_core.proofs.AdmitLaws.{fits_is, event-admits}
 
 -- ---- what it tells
 
-pub settled_is : (early : Bool) (s : Setting) (v : View) (L : List Item) → Knows early s v L → is_settled v ≡ settled L v.number
+pub settled_is : (early : Bool) (s : Setting) (v : View) (L : List Item) → KnowsRun early s v L → is_settled v ≡ settled L v.number
 settled_is early s v L k = rw (← k.refused, ← k.exited, ← k.input_ended, ← k.output_ended) refl
 
 untaken_is : (t u n : ℕ) → t + u ≡ n → (u == 0) ≡ (t == n)
 untaken_is t u n e = grind (arith, nat_tests)
 
-pub wants_are : (early : Bool) (s : Setting) (v : View) (L : List Item) → Knows early s v L → WantsAreExact s v L
+pub wants_are : (early : Bool) (s : Setting) (v : View) (L : List Item) → KnowsRun early s v L → WantsAreExact s v L
 wants_are early s v L k =
     let taken : (v.untaken == 0) ≡ is_all_taken L v.number = untaken_is (took_sum L v.number) v.untaken (length (child_in L v.number)) k.took in
     record {
@@ -152,12 +152,12 @@ other-admits early s v L n x m o = record {
   talk = o.talk;
 }
 
-pub Knows-other : (early : Bool) (s : Setting) (v : View) (L : List Item) (x : Item) → Knows early s v L → concerns s.conn v.number x ≡ false → Offers s v L plain x → Knows early s v (L ++ x ∷ [])
+pub Knows-other : (early : Bool) (s : Setting) (v : View) (L : List Item) (x : Item) → KnowsRun early s v L → concerns s.conn v.number x ≡ false → Offers s v L plain x → KnowsRun early s v (L ++ x ∷ [])
 Knows-other early s v L x k e o =
-    subst (λ w. Knows early s w (L ++ x ∷ [])) (noted-other s.conn v x e)
+    subst (λ w. KnowsRun early s w (L ++ x ∷ [])) (noted-other s.conn v x e)
     (Knows-noted early s v L plain x k (other-admits early s v L plain x (apart_of s.conn v.number x e).names o))
 
-pub still-offers : (early : Bool) (s : Setting) (v : View) (L : List Item) (act : Act) → IsStill s → Knows early s v L → Offers s v L plain (Out act)
+pub still-offers : (early : Bool) (s : Setting) (v : View) (L : List Item) (act : Act) → IsStill s → KnowsRun early s v L → Offers s v L plain (Out act)
 still-offers early s v L act still k = record {
   refused = λ w. sym (and_false _);
   body = ap (λ o. o.body) (still L act) ∙ sym (append-nil _);
@@ -166,7 +166,7 @@ still-offers early s v L act still k = record {
   talk = λ w. ap (λ o. o.whole) (still L act) ∙ k.talk w;
 }
 
-pub run-admits : (early : Bool) (s : Setting) (v : View) (L : List Item) (n : Note) (ev : Event) → Knows early s v L → fits_run v ev ≡ true → Offers s v L n (In ev) → Admits early s v L n (In ev)
+pub run-admits : (early : Bool) (s : Setting) (v : View) (L : List Item) (n : Note) (ev : Event) → KnowsRun early s v L → fits_run v ev ≡ true → Offers s v L n (In ev) → Admits early s v L n (In ev)
 run-admits early s v L n ev k f o = elim (cases_Bool (names_child v.number (In ev))) [
   | inl named ↦ event-admits early s v L n k ev (sym (fits_is early s v L k ev named) ∙ f) o
   | inr unnamed_it ↦ other-admits early s v L n (In ev) unnamed_it o

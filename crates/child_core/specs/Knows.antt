@@ -49,8 +49,8 @@ pub record IsFront (front whole : List ℕ) : Type 0 where
 
 -- ---- a run and a list
 
--- `early`: memory was wanting and the run was ended for it, while the Shut that says so is still to come
-pub record Knows (early : Bool) (s : Setting) (v : View) (L : List Item) : Type 0 where
+-- `early`: memory ran out and the run was ended for it, while the Shut that says so is still to come
+pub record KnowsRun (early : Bool) (s : Setting) (v : View) (L : List Item) : Type 0 where
   pub book : v.book ≡ s.limits.children
   pub lingers : v.linger_ticks ≡ s.limits.linger_ticks
   pub starts : count_by (is_start v.number) L ≡ 1

@@ -20,7 +20,7 @@ use Rattle.child_core.specs.declared.ending.Ending.TheVariants.{Gone, Dropped, R
 use Rattle.child_core.specs.Calls.{fits_run, is_heard, hearing, heard, ended, closed, offered}
 use Rattle.child_core.specs.Due.{acting, acted, is_at_rest}
 use Rattle.child_core.specs.Setting.{Setting, run_in}
-use Rattle.child_core.specs.Knows.{Knows, Admits, Offers}
+use Rattle.child_core.specs.Knows.{KnowsRun, Admits, Offers}
 use Rattle.child_core.specs.Walk.{Walk, walked, Deserved}
 
 -- the run of a child whose Start is given, to which these bytes were offered
@@ -34,23 +34,23 @@ StartsAreKnown = (s : Setting) (k : ℕ) (kind : ScriptKind) (body : List ℕ) (
     → (s.offered (L ++ Out (Start k d j hop launch) ∷ [])).body ≡ body
     → (is_websocket kind ≡ false → whole ≡ (s.offered (L ++ Out (Start k d j hop launch) ∷ [])).whole)
     → (is_websocket kind ≡ true → (s.offered (L ++ Out (Start k d j hop launch) ∷ [])).whole ≡ true)
-    → Knows false s (just_begun s k kind body whole) (L ++ Out (Start k d j hop launch) ∷ [])
+    → KnowsRun false s (just_begun s k kind body whole) (L ++ Out (Start k d j hop launch) ∷ [])
 
 abbrev pub FitsIsExact : Type 0
-FitsIsExact = (early : Bool) (s : Setting) (v : View) (L : List Item) → Knows early s v L → (ev : Event) → names_child v.number (In ev) ≡ true
+FitsIsExact = (early : Bool) (s : Setting) (v : View) (L : List Item) → KnowsRun early s v L → (ev : Event) → names_child v.number (In ev) ≡ true
     → fits_run v ev ≡ fits s.limits.children L ev
 
 abbrev pub EventsMayCome : Type 0
-EventsMayCome = (early : Bool) (s : Setting) (v : View) (L : List Item) (n : Note) → Knows early s v L → (ev : Event) → fits s.limits.children L ev ≡ true
+EventsMayCome = (early : Bool) (s : Setting) (v : View) (L : List Item) (n : Note) → KnowsRun early s v L → (ev : Event) → fits s.limits.children L ev ≡ true
     → Offers s v L n (In ev) → Admits early s v L n (In ev)
 
 abbrev pub ItemsAreKnown : Type 0
-ItemsAreKnown = (early : Bool) (s : Setting) (v : View) (L : List Item) (n : Note) (x : Item) → Knows early s v L → Admits early s v L n x
-    → Knows early s (noted s.conn v n x) (L ++ x ∷ [])
+ItemsAreKnown = (early : Bool) (s : Setting) (v : View) (L : List Item) (n : Note) (x : Item) → KnowsRun early s v L → Admits early s v L n x
+    → KnowsRun early s (noted s.conn v n x) (L ++ x ∷ [])
 
 abbrev pub WalksAreKnown : Type 0
-WalksAreKnown = (early : Bool) (s : Setting) (v : View) (L : List Item) (acts : List Act) → Knows early s v L → Walk early s v L acts
-    → Knows early s (walked s v acts) (L ++ map Out acts)
+WalksAreKnown = (early : Bool) (s : Setting) (v : View) (L : List Item) (acts : List Act) → KnowsRun early s v L → Walk early s v L acts
+    → KnowsRun early s (walked s v acts) (L ++ map Out acts)
 
 abbrev pub ActsAreWalked : Type 0
 ActsAreWalked = (s : Setting) (may : Bool) (v : View) → walked s v (acting may v) ≡ acted may v
@@ -63,8 +63,8 @@ ActsAreDeserved = (may : Bool) (v : View) → Deserved may v (acted may v)
 
 -- `H` are the items with the step's event. `early`: the connection found no memory, and its Shut stands in the step.
 abbrev pub EndsAreGood : Type 0
-EndsAreGood = (early may : Bool) (s : Setting) (w : View) (H : List Item) (acts : List Act) → Knows early s w H → Walk early s w H acts
-    → Knows false s (walked s w acts) (H ++ map Out acts) → is_at_rest may (walked s w acts) ≡ true → Deserved may w (walked s w acts)
+EndsAreGood = (early may : Bool) (s : Setting) (w : View) (H : List Item) (acts : List Act) → KnowsRun early s w H → Walk early s w H acts
+    → KnowsRun false s (walked s w acts) (H ++ map Out acts) → is_at_rest may (walked s w acts) ≡ true → Deserved may w (walked s w acts)
     → ChildGood (run_in s (walked s w acts)) may H acts (H ++ map Out acts)
 
 -- acts bring nothing for the child's input
@@ -72,10 +72,10 @@ abbrev pub IsStill : Setting → Type 0
 IsStill s = (L : List Item) (act : Act) → s.offered (L ++ Out act ∷ []) ≡ s.offered L
 
 abbrev pub ActsMayCome : Type 0
-ActsMayCome = (early : Bool) (s : Setting) → IsStill s → (may : Bool) (v : View) (L : List Item) → Knows early s v L → Walk early s v L (acting may v)
+ActsMayCome = (early : Bool) (s : Setting) → IsStill s → (may : Bool) (v : View) (L : List Item) → KnowsRun early s v L → Walk early s v L (acting may v)
 
 abbrev pub ActsAreGood : Type 0
-ActsAreGood = (s : Setting) → IsStill s → (may : Bool) (v : View) (H : List Item) → Knows false s v H
+ActsAreGood = (s : Setting) → IsStill s → (may : Bool) (v : View) (H : List Item) → KnowsRun false s v H
     → ChildGood (run_in s (acted may v)) may H (acting may v) (H ++ map Out (acting may v))
 
 -- ---- what the calls make of a run is what an item of the list makes of it, for a run of connection c

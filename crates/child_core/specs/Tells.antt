@@ -14,13 +14,13 @@ use Rattle.trace_child.specs.ChildDemands.{is_all_taken, takes_text}
 use Rattle.child_core.specs.View.{View, Note, plain, noted}
 use Rattle.child_core.specs.Calls.{fits_run, is_settled, wants_more}
 use Rattle.child_core.specs.Setting.{Setting, run_in}
-use Rattle.child_core.specs.Knows.{Knows, Admits, Offers}
+use Rattle.child_core.specs.Knows.{KnowsRun, Admits, Offers}
 use Rattle.child_core.specs.Laws.{IsStill}
 
 -- ---- what it tells
 
 abbrev pub SettledIsExact : Type 0
-SettledIsExact = (early : Bool) (s : Setting) (v : View) (L : List Item) → Knows early s v L → is_settled v ≡ settled L v.number
+SettledIsExact = (early : Bool) (s : Setting) (v : View) (L : List Item) → KnowsRun early s v L → is_settled v ≡ settled L v.number
 
 -- A request's body is fed on where all that was fed was taken; a text is heard for a WebSocket's program that was started.
 pub record WantsAreExact (s : Setting) (v : View) (L : List Item) : Type 0 where
@@ -28,7 +28,7 @@ pub record WantsAreExact (s : Setting) (v : View) (L : List Item) : Type 0 where
   pub text : is_websocket v.kind ≡ true → (v.started && wants_more v) ≡ takes_text (run_in s v) L
 
 abbrev pub WantsMoreIsExact : Type 0
-WantsMoreIsExact = (early : Bool) (s : Setting) (v : View) (L : List Item) → Knows early s v L → WantsAreExact s v L
+WantsMoreIsExact = (early : Bool) (s : Setting) (v : View) (L : List Item) → KnowsRun early s v L → WantsAreExact s v L
 
 -- ---- items that don't name the child
 
@@ -44,22 +44,22 @@ OthersMayCome = (early : Bool) (s : Setting) (v : View) (L : List Item) (n : Not
     → Admits early s v L n x
 
 abbrev pub OthersAreKnown : Type 0
-OthersAreKnown = (early : Bool) (s : Setting) (v : View) (L : List Item) (x : Item) → Knows early s v L → concerns s.conn v.number x ≡ false
-    → Offers s v L plain x → Knows early s v (L ++ x ∷ [])
+OthersAreKnown = (early : Bool) (s : Setting) (v : View) (L : List Item) (x : Item) → KnowsRun early s v L → concerns s.conn v.number x ≡ false
+    → Offers s v L plain x → KnowsRun early s v (L ++ x ∷ [])
 
 -- Where acts bring nothing for the child's input, nothing is offered with one.
 abbrev pub ActsOfferNothing : Type 0
-ActsOfferNothing = (early : Bool) (s : Setting) (v : View) (L : List Item) (act : Act) → IsStill s → Knows early s v L → Offers s v L plain (Out act)
+ActsOfferNothing = (early : Bool) (s : Setting) (v : View) (L : List Item) (act : Act) → IsStill s → KnowsRun early s v L → Offers s v L plain (Out act)
 
 -- An event that fits the run may come next.
 abbrev pub FitsMayCome : Type 0
-FitsMayCome = (early : Bool) (s : Setting) (v : View) (L : List Item) (n : Note) (ev : Event) → Knows early s v L → fits_run v ev ≡ true
+FitsMayCome = (early : Bool) (s : Setting) (v : View) (L : List Item) (n : Note) (ev : Event) → KnowsRun early s v L → fits_run v ev ≡ true
     → Offers s v L n (In ev) → Admits early s v L n (In ev)
 
 -- ---- items before, none of which names the child
 
 abbrev pub FitsBehind : Type 0
-FitsBehind = (early : Bool) (s : Setting) (v : View) (before L : List Item) → list_any (names_child v.number) before ≡ false → Knows early s v L
+FitsBehind = (early : Bool) (s : Setting) (v : View) (before L : List Item) → list_any (names_child v.number) before ≡ false → KnowsRun early s v L
     → (ev : Event) → names_child v.number (In ev) ≡ true → fits_run v ev ≡ fits s.limits.children (before ++ L) ev
 
 -- the same setting, where these items stand before
@@ -69,5 +69,5 @@ behind before s = record s { offered = λ L. s.offered (drop (length before) L) 
 -- No WebSocket of its connection was closed before, and the server was not to end.
 abbrev pub KnowsBehind : Type 0
 KnowsBehind = (early : Bool) (s : Setting) (v : View) (before L : List Item) → list_any (names_child v.number) before ≡ false
-    → (is_websocket v.kind ≡ true → list_any (is_ws_closed s.conn) before ≡ false) → stopped before ≡ false → Knows early s v L
-    → Knows early (behind before s) v (before ++ L)
+    → (is_websocket v.kind ≡ true → list_any (is_ws_closed s.conn) before ≡ false) → stopped before ≡ false → KnowsRun early s v L
+    → KnowsRun early (behind before s) v (before ++ L)

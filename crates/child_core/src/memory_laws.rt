@@ -1,4 +1,4 @@
-// Laws of a run's acts one by one, and of the step in which memory was wanting. Each function is one law, and does
+// Laws of a run's acts one by one, and of the step in which memory ran out. Each function is one law, and does
 // nothing.
 ghost use Rattle.child_core.specs.Memory.{DueActsAreInForm, EndedActsAreInForm, ActsAreDue, PiecesAreFronts, DueActsMayCome, KnowsEarly, KnowsShut, EndedActsAgree, EndedActsMayCome, EndedStepsAreKnown, EndedStepsAreGood};
 
@@ -22,7 +22,7 @@ pub fn due_acts_are_in_form()
     ensures { DueActsAreInForm }
 {}
 
-/// What a run knows it knows too once memory was wanting.
+/// What a run knows it knows too once memory ran out.
 pub fn knows_early()
     ensures { KnowsEarly }
 {}

@@ -1,67 +1,12 @@
-// A step of a connection.
-ghost use Rattle.std.specs.Prelude.{ℕ, ◌≡◌};
-ghost use Rattle.reply_writer.specs.WholeRules.{IsStamp};
-ghost use Rattle.host_base.specs.SiteRules.{IsServed};
-ghost use Rattle.conn_state.specs.Kept.{Gave, marks_of, site_of};
-ghost use Rattle.conn_state.specs.Reasons.{Stops};
-ghost use Rattle.conn_core.specs.Parts.{Drops};
-ghost use Rattle.conn_core.specs.Opens.{StepsTo};
+// A connection of this server.
+ghost use Rattle.conn_phase.specs.Phase.{may_step};
+ghost use Rattle.conn_phase.proofs.PropLaws.{may_step_prop};
 
-use crate::close::{close, shut_for, want};
-use crate::greet::open;
-use crate::serve::serve;
-use conn_state::Conn;
-use host_trace::{Event, Outside, Why};
-use talk_conn::TalkConn;
+use conn_phase::Phase;
 
-/// What a connection is from a step on.
+/// One connection of a site, as the core of all connections holds it.
 #[derive(Drop)]
-pub enum Onward<'s> {
-    /// It speaks HTTP, or is over.
-    Http,
-    /// It speaks WebSocket.
-    Talk(TalkConn<'s>),
-    /// It was shut before its talk began, for want of memory, and has no child.
-    Shut,
-}
-
-/// One step: an event of the connection or of its child, a Tick or Stop, and the acts that it makes due. `now` is
-/// what the clock showed at the last Tick, this event included. `children` is the number of the next child, and
-/// rises by one where it is started. Where the connection speaks WebSocket from this step on, or was shut
-/// before it could, it is not to be stepped any more.
-pub fn step<'s, O: Outside>(
-    conn: &mut Conn<'s>,
-    ev: Event,
-    now: Option<u64>,
-    children: &mut u64,
-    out: &mut O,
-) -> Onward<'s>
-    requires stamp { IsStamp now }
-    requires served { IsServed (site_of conn.old) }
-    ensures gave { StepsTo result conn.old ev now children.old (O.trace out.old) conn.new children.new (O.trace out.new) }
-    ensures stops { result ≡ Onward.Http → Stops (marks_of conn.new) }
-    ensures limit { O.limit out.new ≡ O.limit out.old }
-{
-    conn.hear(ev);
-    match serve(conn, now, children, out) {
-        Some(launch) => match open(conn, launch, children, out) {
-            Some(talk) => Onward::Talk(talk),
-            None => Onward::Shut,
-        },
-        None => {
-            close(conn, out);
-            want(conn, out);
-            Onward::Http
-        }
-    }
-}
-
-/// Shuts the connection for a reason of its caller, unless it is shut or was not accepted. It takes no memory.
-pub fn drop_it<O: Outside>(conn: &mut Conn<'_>, why: Why, out: &mut O)
-    ensures gave { (n : ℕ) → Gave (Drops why) conn.old n (O.trace out.old) conn.new n (O.trace out.new) }
-    ensures limit { O.limit out.new ≡ O.limit out.old }
-{
-    if conn.marks.is_live() {
-        shut_for(conn, why, out);
-    }
+pub struct Conn<'s> {
+    pub(crate) conn: Phase<'s>,
+    ghost talks: { may_step conn } by { may_step_prop conn },
 }

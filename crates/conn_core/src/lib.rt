@@ -1,15 +1,7 @@
-//! One connection: it hears events and gives the acts that are due, exchange after exchange.
+//! The connections of this server, as the core of all connections holds them.
 #![tactic(auto)]
 
-mod close;
 mod conn;
-mod give;
-mod greet;
-mod laws;
-mod serve;
+mod one_of_many;
 
-pub use conn::{Onward, drop_it, step};
-pub use conn_state::{Conn, Held};
-pub use laws::{
-    steps_are_in_form, steps_are_in_time, steps_are_known, steps_keep_fronts, steps_stop,
-};
+pub use conn::Conn;

@@ -1,4 +1,4 @@
--- What the marks of a connection say in the words of the rules.
+-- What the flags of a connection say in the words of the rules.
 use Rattle.std.proofs.Common.{◌≡◌, ℕ, Bool, true, false, List, [], ◌∷◌, ◌++◌, refl, sym, ap, arith, subst, ◌∙◌, length, ◌+◌}
 use Rattle.std.specs.Prelude.{not, ◌-◌, ◌&&◌, ◌||◌, ◌==◌, if◌then◌else◌, nat_le}
 use Rattle.std.specs.List.{list_any}
@@ -13,16 +13,16 @@ use Rattle.own_traces.specs.Whose.{is_of, are_of, with_child, next_child}
 use Rattle.trace_child.specs.Words.{is_filled}
 use Rattle.trace_model.specs.Demands.{is_live}
 use Rattle.trace_model.specs.Form.{has_place as may_hold, may_come}
-use Rattle.conn_marks.specs.View.{View, noted, is_live as lives, may_write, has_room as finds_room}
-use Rattle.conn_marks.specs.Knows.{Knows}
-use Rattle.conn_marks.specs.Form.{may_give, is_timely, is_allowed, are_given}
-use Rattle.conn_marks.specs.Laws.{AreExact}
-use Rattle.conn_marks.proofs.KnowsLaws.{act_admitted, known_next, marks_told}
+use Rattle.conn_flags.specs.View.{View, noted, is_live as lives, may_write, has_room as finds_room}
+use Rattle.conn_flags.specs.Knows.{KnowsFlags}
+use Rattle.conn_flags.specs.Form.{may_give, is_timely, is_allowed, are_given}
+use Rattle.conn_flags.specs.Laws.{AreExact}
+use Rattle.conn_flags.proofs.KnowsLaws.{act_admitted, known_next, flags_told}
 use Rattle.conn_laws.specs.Form.{SaysDemands, all_come, all_in_time, comes_in_time, is_to_connection}
 
-pub marks_say : (m : View) (L : List Item) → Knows m L → SaysDemands m L
-marks_say m L k =
-    let exact : AreExact m L = marks_told m L k in
+pub flags_say : (m : View) (L : List Item) → KnowsFlags m L → SaysDemands m L
+flags_say m L k =
+    let exact : AreExact m L = flags_told m L k in
     record {
       live = exact.live;
       room = exact.room;
@@ -46,9 +46,9 @@ where_so : (a b d e : Bool) → (a ≡ true → d ≡ e) → (a && b && d) ≡ (
 where_so true b d e same = ap (λ x. b && x) (same refl)
 where_so false b d e same = refl
 
-module _ (m : View) (L : List Item) (k : Knows m L) where
+module _ (m : View) (L : List Item) (k : KnowsFlags m L) where
   exact : AreExact m L
-  exact = marks_told m L k
+  exact = flags_told m L k
 
   at_mine : (d : ℕ) (claim : ℕ → Type 0) → claim m.c → (m.c == d) ≡ true → claim d
   at_mine d claim mine is = subst claim (eqb-true m.c d is) mine
@@ -73,15 +73,10 @@ module _ (m : View) (L : List Item) (k : Knows m L) where
   form_by (Says d texts) mine to =
       at_mine d (λ c. (is_live c L && upgraded L c && is_filled texts) ≡ may_give m (Says c texts)) (rw (exact.live, k.upgraded) refl) mine
   form_by (CloseWs d code) mine to = at_mine d (λ c. (is_live c L && upgraded L c) ≡ may_give m (CloseWs c code)) (rw (exact.live, k.upgraded) refl) mine
-  form_by (Start j d i hop launch) mine to = absurd (false≢true to)
-  form_by (Feed j bytes) mine to = absurd (false≢true to)
-  form_by (EndInput j) mine to = absurd (false≢true to)
-  form_by (WantChild j) mine to = absurd (false≢true to)
-  form_by (Kill j) mine to = absurd (false≢true to)
-  form_by (Release j) mine to = absurd (false≢true to)
+  form_by _ mine to = absurd (false≢true to)
 
-pub form_by_marks : (m : View) (L : List Item) (act : Act) → Knows m L → names m.c (Out act) ≡ true → is_to_connection act ≡ true → may_come L act ≡ may_give m act
-form_by_marks m L act k mine to = form_by m L k act mine to
+pub form_by_flags : (m : View) (L : List Item) (act : Act) → KnowsFlags m L → names m.c (Out act) ≡ true → is_to_connection act ≡ true → may_come L act ≡ may_give m act
+form_by_flags m L act k mine to = form_by m L k act mine to
 
 -- ---- acts of one connection
 
@@ -100,26 +95,21 @@ own_name c n ks (Shut d why) to is = named (c == d) _ (none_of ks (Out (Shut d w
 own_name c n ks (Upgrade d rest) to is = named (c == d) _ (none_of ks (Out (Upgrade d rest)) (λ k. refl)) is
 own_name c n ks (Says d texts) to is = named (c == d) _ (none_of ks (Out (Says d texts)) (λ k. refl)) is
 own_name c n ks (CloseWs d code) to is = named (c == d) _ (none_of ks (Out (CloseWs d code)) (λ k. refl)) is
-own_name c n ks (Start j d i hop launch) to is = absurd (false≢true to)
-own_name c n ks (Feed j bytes) to is = absurd (false≢true to)
-own_name c n ks (EndInput j) to is = absurd (false≢true to)
-own_name c n ks (WantChild j) to is = absurd (false≢true to)
-own_name c n ks (Kill j) to is = absurd (false≢true to)
-own_name c n ks (Release j) to is = absurd (false≢true to)
+own_name c n ks _ to is = absurd (false≢true to)
 
 comes_by : (to may come : Bool) → may ≡ true → (to ≡ true → come ≡ may) → (not to || come) ≡ true
 comes_by true may come allowed is = is refl ∙ allowed
 comes_by false may come allowed is = refl
 
-pub acts_come : (m : View) (L : List Item) (ks : List ℕ) (n : ℕ) (acts : List Act) → Knows m L → are_of m.c ks n acts ≡ true → are_given m acts ≡ true → all_come L acts ≡ true
+pub acts_come : (m : View) (L : List Item) (ks : List ℕ) (n : ℕ) (acts : List Act) → KnowsFlags m L → are_of m.c ks n acts ≡ true → are_given m acts ≡ true → all_come L acts ≡ true
 acts_come m L ks n [] k are given = refl
 acts_come m L ks n (act ∷ acts) k are given =
     let mine = and_parts (is_of m.c ks n (Out act)) (are_of m.c (with_child ks m.c (Out act)) (next_child n (Out act)) acts) are in
     let may = and_parts (is_allowed m act) (are_given (noted m (Out act)) acts) given in
     let form : may_give m act ≡ true = (and_parts (may_give m act) (is_timely m act) may.0).0 in
-    let one : Knows (noted m (Out act)) (L ++ Out act ∷ []) = known_next m L (Out act) k (act_admitted m act form) in
+    let one : KnowsFlags (noted m (Out act)) (L ++ Out act ∷ []) = known_next m L (Out act) k (act_admitted m act form) in
     and_from (not (is_to_connection act) || may_come L act) (all_come (L ++ Out act ∷ []) acts)
-    (comes_by (is_to_connection act) (may_give m act) (may_come L act) form (λ to. form_by_marks m L act k (own_name m.c n ks act to mine.0) to))
+    (comes_by (is_to_connection act) (may_give m act) (may_come L act) form (λ to. form_by_flags m L act k (own_name m.c n ks act to mine.0) to))
     (acts_come (noted m (Out act)) (L ++ Out act ∷ []) (with_child ks m.c (Out act)) (next_child n (Out act)) acts one mine.1 may.1)
 
 -- ---- in time
@@ -128,31 +118,22 @@ regrouped : (a b d : Bool) → (a && (b && d)) ≡ true → (a && b && d) ≡ tr
 regrouped true b d e = e
 regrouped false b d e = e
 
-in_time : (m : View) (L : List Item) (act : Act) → Knows m L → is_allowed m act ≡ true → comes_in_time m.c L act ≡ true
+in_time : (m : View) (L : List Item) (act : Act) → KnowsFlags m L → is_allowed m act ≡ true → comes_in_time m.c L act ≡ true
 in_time m L (WantClient d) k a =
-    let s : SaysDemands m L = marks_say m L k in
+    let s : SaysDemands m L = flags_say m L k in
     let t : (finds_room m && not m.stopped) ≡ true = (and_parts (lives m && not m.asked) (finds_room m && not m.stopped) a).1 in
     rw (s.room, s.stopped_then) at t
 in_time m L (Start j d i hop launch) k a =
-    let s : SaysDemands m L = marks_say m L k in
+    let s : SaysDemands m L = flags_say m L k in
     let t : (lives m && finds_room m && not m.stopped) ≡ true = regrouped (lives m) (finds_room m) (not m.stopped) a in
     rw (s.live, s.room, s.stopped_then) at t
-in_time m L (Write d bytes) k a = refl
-in_time m L (Shut d why) k a = refl
-in_time m L (Feed j bytes) k a = refl
-in_time m L (EndInput j) k a = refl
-in_time m L (WantChild j) k a = refl
-in_time m L (Kill j) k a = refl
-in_time m L (Release j) k a = refl
-in_time m L (Upgrade d rest) k a = refl
-in_time m L (Says d texts) k a = refl
-in_time m L (CloseWs d code) k a = refl
+in_time m L _ k a = refl
 
-pub acts_in_time : (m : View) (L : List Item) (acts : List Act) → Knows m L → are_given m acts ≡ true → all_in_time m.c L acts ≡ true
+pub acts_in_time : (m : View) (L : List Item) (acts : List Act) → KnowsFlags m L → are_given m acts ≡ true → all_in_time m.c L acts ≡ true
 acts_in_time m L [] k given = refl
 acts_in_time m L (act ∷ acts) k given =
     let may = and_parts (is_allowed m act) (are_given (noted m (Out act)) acts) given in
     let form : may_give m act ≡ true = (and_parts (may_give m act) (is_timely m act) may.0).0 in
-    let one : Knows (noted m (Out act)) (L ++ Out act ∷ []) = known_next m L (Out act) k (act_admitted m act form) in
+    let one : KnowsFlags (noted m (Out act)) (L ++ Out act ∷ []) = known_next m L (Out act) k (act_admitted m act form) in
     and_from (comes_in_time m.c L act) (all_in_time m.c (L ++ Out act ∷ []) acts) (in_time m L act k may.0)
     (acts_in_time (noted m (Out act)) (L ++ Out act ∷ []) acts one may.1)

@@ -4,3 +4,5 @@ pub mod IdleLaws
 pub mod EndLaws
 pub mod FormLaws
 pub mod StartLaws
+pub mod MoveLaws
+pub mod FrontLaws

@@ -66,9 +66,7 @@ module _ (site : Site) (c : ℕ) (e : Exchange) (x : Item) (starts : child_start
   module _ (next later : List ℕ → Walk) (each : (location : List ℕ) → later location ≡ next location) where
     output_same : (leg : Leg) (output : Derived) → at_output leg later output ≡ at_output leg next output
     output_same leg (Output.Hop location) = each location
-    output_same leg (Output.Reply reply) = refl
-    output_same leg (Output.Raw bytes) = refl
-    output_same leg (Output.Bad cause) = refl
+    output_same leg _ = refl
 
     outcome_same : (leg : Leg) (front : List Item) (o : Outcome) → at_outcome site c (pushed e x) leg later front o ≡ at_outcome site c e leg next front o
     outcome_same leg front derived = output_same leg (derived_of leg.kind (child_out front leg.child))

@@ -5,3 +5,7 @@ pub mod Ends
 pub mod Form
 pub mod Laws
 pub mod Starts
+pub mod Moves
+pub mod Front
+pub mod Hearing
+pub mod FrontLaws

@@ -2,7 +2,7 @@
 ghost use Rattle.conn_laws.specs.Laws.{QuietItemsChangeNothing, PlainActsAreQuiet, ActsBreakNothing, HopsAreWalked, WalksAreKept, HopsStandAsTheyAre, RedirectsLeadOn};
 ghost use Rattle.conn_laws.specs.Idle.{IdleIsCountedDown, IdleEndIsTheLast};
 ghost use Rattle.conn_laws.specs.Starts.{StartsBegin, OutcomesTellDeciders, WholeOutputStays};
-ghost use Rattle.conn_laws.specs.Form.{MarksSayDemands, FormIsByMarks, ActsComeInForm, ActsComeInTime};
+ghost use Rattle.conn_laws.specs.Form.{FlagsSayDemands, FormIsByFlags, ActsComeInForm, ActsComeInTime};
 ghost use Rattle.conn_laws.specs.Ends.{LastChildDecides, SettledStay, UnfinishedAreNotWhole, WholeStays, EndsAreTested};
 
 /// A quiet item leaves the walk as it was.
@@ -75,17 +75,17 @@ pub fn ends_are_tested()
     ensures { EndsAreTested }
 {}
 
-/// The marks of a connection say what the rules on it ask.
-pub fn marks_say_demands()
-    ensures { MarksSayDemands }
+/// The flags of a connection say what the rules on it ask.
+pub fn flags_say_demands()
+    ensures { FlagsSayDemands }
 {}
 
-/// An act on a connection comes in form exactly where its marks allow it.
-pub fn form_is_by_marks()
-    ensures { FormIsByMarks }
+/// An act on a connection comes in form exactly where its flags allow it.
+pub fn form_is_by_flags()
+    ensures { FormIsByFlags }
 {}
 
-/// Acts of one connection come in form where its marks allow each when it is given.
+/// Acts of one connection come in form where its flags allow each when it is given.
 pub fn acts_come_in_form()
     ensures { ActsComeInForm }
 {}

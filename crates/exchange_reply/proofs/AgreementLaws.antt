@@ -79,17 +79,13 @@ content_is_short Nph (byte ∷ output) = omega arith
 content_is_short WebSocket output = omega arith
 
 abbrev RawIsFilled : Derived → Type 0
-RawIsFilled (Output.Reply reply) = Unit {0}
 RawIsFilled (Output.Raw output) = is_filled output ≡ true
-RawIsFilled (Output.Hop location) = Unit {0}
-RawIsFilled (Output.Bad cause) = Unit {0}
+RawIsFilled _ = Unit {0}
 
 raw_kind : (head : CgiHead) (body : List ℕ) (kind : Result ReplyKind Cause) → RawIsFilled (derived_by_kind head body kind)
 raw_kind head body (Err cause) = tt
 raw_kind head body (Ok LocalRedirect) = tt
-raw_kind head body (Ok Document) = tt
-raw_kind head body (Ok Redirect) = tt
-raw_kind head body (Ok RedirectDocument) = tt
+raw_kind head body (Ok _) = tt
 
 raw_step : (output : List ℕ) (step : HdrStep) → RawIsFilled (derived_by_step output step)
 raw_step output (Whole head used) = raw_kind head (drop used output) (kind_of head)
@@ -106,18 +102,14 @@ raw_is_filled WebSocket output = tt
 -- a reply with 205 has no body
 abbrev HasNone : Derived → Type 0
 HasNone (Output.Reply reply) = (reply.status == 205) ≡ true → reply.body ≡ []
-HasNone (Output.Raw output) = Unit {0}
-HasNone (Output.Hop location) = Unit {0}
-HasNone (Output.Bad cause) = Unit {0}
+HasNone _ = Unit {0}
 
 none_at : (d : Derived) → d ≡ longer d [] → HasNone d
 unfolding content_in
 none_at (Output.Reply reply) same = λ resets.
     let body : reply.body ≡ (if reply.status == 205 then [] else reply.body ++ []) = ap content_in same in
     body ∙ ap (λ (b : Bool). if b then [] else reply.body ++ []) resets
-none_at (Output.Raw output) same = tt
-none_at (Output.Hop location) same = tt
-none_at (Output.Bad cause) same = tt
+none_at _ same = tt
 
 derived_none : (kind : ScriptKind) (output : List ℕ) → is_streamable kind output ≡ true → HasNone (derived_of kind output)
 derived_none kind output can =

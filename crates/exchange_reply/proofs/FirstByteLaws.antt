@@ -42,17 +42,7 @@ not_first : (c skipped : ℕ) (front : List Item) (x : Item) → length (client_
 not_first c skipped front (In event) few = refl
 not_first c skipped front (Out (Write d bytes)) few =
     ap (λ (b : Bool). c == d && b) (le-ltb skipped (length (client_out (front ++ Out (Write d bytes) ∷ []) c)) few) ∙ and-false (c == d)
-not_first c skipped front (Out (WantClient d)) few = refl
-not_first c skipped front (Out (Shut d why)) few = refl
-not_first c skipped front (Out (Start k d j hop launch)) few = refl
-not_first c skipped front (Out (Feed k bytes)) few = refl
-not_first c skipped front (Out (EndInput k)) few = refl
-not_first c skipped front (Out (WantChild k)) few = refl
-not_first c skipped front (Out (Kill k)) few = refl
-not_first c skipped front (Out (Release k)) few = refl
-not_first c skipped front (Out (Upgrade d rest)) few = refl
-not_first c skipped front (Out (Says d texts)) few = refl
-not_first c skipped front (Out (CloseWs d code)) few = refl
+not_first c skipped front (Out _) few = refl
 
 out-append : (c : ℕ) (front more : List Item) → client_out (front ++ more) c ≡ client_out front c ++ client_out more c
 out-append c front more = flat_map-append (bytes_written c) front more

@@ -13,7 +13,7 @@ use Rattle.reply_stream.specs.Writing.{Stood, nothing, begun, begun_way, whole_w
 use Rattle.reply_stream.proofs.HearingLaws.{output-piece, output-tick, ticked-piece, ticked-tick}
 use Rattle.reply_stream.proofs.StageLaws.{standings_hold}
 use Rattle.exchange_reply.specs.declared.reply.LegReply.{LegReply}
-use Rattle.exchange_reply.specs.Reply.{Fails, Gives, IsClosedBy, KnownStand, Knows, MayEndWithout, MayTickWithout, SpellsFault, closes_of}
+use Rattle.exchange_reply.specs.Reply.{Fails, Gives, IsClosedBy, KnownStand, KnowsReply, MayEndWithout, MayTickWithout, SpellsFault, closes_of}
 use Rattle.exchange_reply.specs.Standings.{Ends, Stands, is_due, next}
 
 due_is : (asked : Asked) (told : List Told) (output : List ℕ) (ticked : Bool) → output_of told ≡ output → is_ticked asked.kind told ≡ ticked
@@ -68,7 +68,7 @@ gives_by asked told output ticked close stamp stood text r asked_is output_is ti
     }
 
 pub gives_piece : (asked : Asked) (output bytes : List ℕ) (ticked close : Bool) (stamp : Option ℕ) (stood : Stood) (text : List ℕ) (old new : LegReply)
-    → (knows : Knows old asked output ticked stood) → new.asked ≡ old.asked → new.closes ≡ closes_of stood close
+    → (knows : KnowsReply old asked output ticked stood) → new.asked ≡ old.asked → new.closes ≡ closes_of stood close
     → Writes asked (knows.told ++ piece bytes ∷ []) close stamp stood text new.stream → Gives asked (output ++ bytes) ticked close stamp stood text new
 gives_piece asked output bytes ticked close stamp stood text old new knows asked_is closes_is writes =
     gives_by asked (knows.told ++ piece bytes ∷ []) (output ++ bytes) ticked close stamp stood text new (asked_is ∙ knows.asked_is)
@@ -85,7 +85,7 @@ tick_ticked asked told output ticked output_is ticked_is =
     ∙ ap (λ (l : List ℕ). ticked || is_header_whole asked.kind l) output_is
 
 pub gives_tick : (asked : Asked) (output : List ℕ) (ticked close : Bool) (stamp : Option ℕ) (stood : Stood) (text : List ℕ) (old new : LegReply)
-    → (knows : Knows old asked output ticked stood) → new.asked ≡ old.asked → new.closes ≡ closes_of stood close
+    → (knows : KnowsReply old asked output ticked stood) → new.asked ≡ old.asked → new.closes ≡ closes_of stood close
     → Writes asked (knows.told ++ tick ∷ []) close stamp stood text new.stream
     → Gives asked output (ticked || is_header_whole asked.kind output) close stamp stood text new
 gives_tick asked output ticked close stamp stood text old new knows asked_is closes_is writes =

@@ -35,22 +35,16 @@ use Rattle.exchange_reply.proofs.AgreementLaws.{bytes_same, cuts_stay, ends_conc
 part_same : (site : Site) (c : ℕ) (e : Exchange) (bytes : List ℕ) (derived : Option Derived) → part_of site c e bytes derived ≡ part_by (way site c e) bytes derived
 part_same site c e bytes None = refl
 part_same site c e bytes (Some (Output.Reply reply)) = refl
-part_same site c e bytes (Some (Output.Raw output)) = refl
-part_same site c e bytes (Some (Output.Hop location)) = refl
-part_same site c e bytes (Some (Output.Bad cause)) = refl
+part_same site c e bytes (Some _) = refl
 
 cut_same : (site : Site) (c : ℕ) (e : Exchange) (bytes : List ℕ) (derived : Option Derived) → is_cut_of site c e bytes derived ≡ is_cut_by (way site c e) bytes derived
 cut_same site c e bytes None = refl
 cut_same site c e bytes (Some (Output.Reply reply)) = refl
-cut_same site c e bytes (Some (Output.Raw output)) = refl
-cut_same site c e bytes (Some (Output.Hop location)) = refl
-cut_same site c e bytes (Some (Output.Bad cause)) = refl
+cut_same site c e bytes (Some _) = refl
 
 spells_same : (site : Site) (c : ℕ) (e : Exchange) (bytes : List ℕ) (d : Derived) → spells_answer site c e bytes (answer_of_output d) ≡ spells_by (way site c e) bytes d
 spells_same site c e bytes (Output.Reply reply) = refl
-spells_same site c e bytes (Output.Raw output) = refl
-spells_same site c e bytes (Output.Hop location) = refl
-spells_same site c e bytes (Output.Bad cause) = refl
+spells_same site c e bytes _ = refl
 
 module _ (site : Site) (c : ℕ) (e : Exchange) where
   may_from : (bytes : List ℕ) → (is_filled bytes ≡ true → may_follow site c e bytes (answer site c e) ≡ true) → may_be_final site c e bytes ≡ true

@@ -20,7 +20,7 @@ IsClosedBy closes nothing = Unit {0}
 IsClosedBy closes (begun close stamp bytes) = closes ≡ close
 
 -- This output was heard, a Tick came after its header or none did, and this stands.
-pub record Knows (r : LegReply) (asked : Asked) (output : List ℕ) (ticked : Bool) (stood : Stood) : Type 0 where
+pub record KnowsReply (r : LegReply) (asked : Asked) (output : List ℕ) (ticked : Bool) (stood : Stood) : Type 0 where
   pub asked_is : r.asked ≡ asked
   pub told : List Told
   pub output_is : output_of told ≡ output
@@ -30,7 +30,7 @@ pub record Knows (r : LegReply) (asked : Asked) (output : List ℕ) (ticked : Bo
 
 -- with this text after what stood; it is empty where nothing stands still
 pub record Gives (asked : Asked) (output : List ℕ) (ticked close : Bool) (stamp : Option ℕ) (stood : Stood) (text : List ℕ) (r : LegReply) : Type 0 where
-  pub knows : Knows r asked output ticked (next asked output ticked close stamp stood text)
+  pub knows : KnowsReply r asked output ticked (next asked output ticked close stamp stood text)
   pub quiet : IsQuiet (next asked output ticked close stamp stood text) text
 
 -- whether the connection closes after it, where it closes after an answer that begins now
@@ -66,5 +66,5 @@ Fails asked cause closes now (begun close stamp bytes) None = Unit {0}
 
 -- What stands of a reply is what is to stand.
 abbrev pub KnownStand : Type 0
-KnownStand = (r : LegReply) (asked : Asked) (output : List ℕ) (ticked : Bool) (stood : Stood) → Knows r asked output ticked stood
+KnownStand = (r : LegReply) (asked : Asked) (output : List ℕ) (ticked : Bool) (stood : Stood) → KnowsReply r asked output ticked stood
     → Stands asked output ticked stood

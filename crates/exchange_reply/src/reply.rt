@@ -4,7 +4,7 @@ ghost use Rattle.reply_kinds.specs.Derived.{is_header_whole};
 ghost use Rattle.reply_stream.specs.declared.asked.Asked.{Asked};
 ghost use Rattle.reply_stream.specs.Writing.{Stood, nothing, is_begun};
 ghost use Rattle.reply_writer.specs.WholeRules.{IsStamp};
-ghost use Rattle.exchange_reply.specs.Reply.{Fails, Gives, Knows, MayEndWithout, MayTickWithout, closes_of};
+ghost use Rattle.exchange_reply.specs.Reply.{Fails, Gives, KnowsReply, MayEndWithout, MayTickWithout, closes_of};
 ghost use Rattle.exchange_reply.specs.Standings.{Ends};
 
 use crate::fault_text;
@@ -26,7 +26,7 @@ pub struct LegReply {
 impl LegReply {
     /// The script has given nothing. It takes no memory.
     pub fn new(alloc: Global, asked: Asked) -> Self
-        ensures { Knows result asked [] false nothing }
+        ensures { KnowsReply result asked [] false nothing }
     {
         LegReply {
             alloc,
@@ -38,7 +38,7 @@ impl LegReply {
 
     /// Whether a byte of it was handed out.
     pub fn has_begun(&self) -> bool
-        ensures { (asked : Asked) (output : List ℕ) (ticked : Bool) (stood : Stood) → Knows self.now asked output ticked stood
+        ensures { (asked : Asked) (output : List ℕ) (ticked : Bool) (stood : Stood) → KnowsReply self.now asked output ticked stood
             → result ≡ is_begun stood }
     {
         self.stream.has_begun()
@@ -47,7 +47,7 @@ impl LegReply {
     /// Whether the connection closes after it. That is fixed with its first byte; before, `closes_now` says whether
     /// it closes after an answer that begins now.
     pub fn closes(&self, closes_now: bool) -> bool
-        ensures { (asked : Asked) (output : List ℕ) (ticked : Bool) (stood : Stood) → Knows self.now asked output ticked stood
+        ensures { (asked : Asked) (output : List ℕ) (ticked : Bool) (stood : Stood) → KnowsReply self.now asked output ticked stood
             → result ≡ closes_of stood closes_now }
     {
         if self.has_begun() {
@@ -66,7 +66,7 @@ impl LegReply {
         now: Option<u64>,
     ) -> Result<Bytes, NoMemory>
         requires { IsStamp now }
-        ensures heard { (asked : Asked) (output : List ℕ) (ticked : Bool) (stood : Stood) → Knows self.old asked output ticked stood
+        ensures heard { (asked : Asked) (output : List ℕ) (ticked : Bool) (stood : Stood) → KnowsReply self.old asked output ticked stood
             → IfOk result (λ text. Gives asked (output ++ piece) ticked closes_now now stood text self.new) }
         ensures err { OnErr result (self.new ≡ self.old) }
     {
@@ -79,9 +79,9 @@ impl LegReply {
     /// Takes a Tick, and answers as `hear` does. It takes memory only where the reply begins.
     pub fn tick(&mut self, closes_now: bool, now: Option<u64>) -> Result<Bytes, NoMemory>
         requires { IsStamp now }
-        ensures ticked { (asked : Asked) (output : List ℕ) (ticked : Bool) (stood : Stood) → Knows self.old asked output ticked stood
+        ensures ticked { (asked : Asked) (output : List ℕ) (ticked : Bool) (stood : Stood) → KnowsReply self.old asked output ticked stood
             → IfOk result (λ text. Gives asked output (ticked || is_header_whole asked.kind output) closes_now now stood text self.new) }
-        ensures memory { (asked : Asked) (output : List ℕ) (ticked : Bool) (stood : Stood) → Knows self.old asked output ticked stood
+        ensures memory { (asked : Asked) (output : List ℕ) (ticked : Bool) (stood : Stood) → KnowsReply self.old asked output ticked stood
             → OnErr result (MayTickWithout asked output ticked stood) }
         ensures err { OnErr result (self.new ≡ self.old) }
     {
@@ -96,9 +96,9 @@ impl LegReply {
     /// memory for the end of its chunks alone.
     pub fn end(self, closes_now: bool, now: Option<u64>) -> Result<Last, NoMemory>
         requires { IsStamp now }
-        ensures last { (asked : Asked) (output : List ℕ) (ticked : Bool) (stood : Stood) → Knows self asked output ticked stood
+        ensures last { (asked : Asked) (output : List ℕ) (ticked : Bool) (stood : Stood) → KnowsReply self asked output ticked stood
             → IfOk result (Ends asked output closes_now now stood) }
-        ensures memory { (asked : Asked) (output : List ℕ) (ticked : Bool) (stood : Stood) → Knows self asked output ticked stood
+        ensures memory { (asked : Asked) (output : List ℕ) (ticked : Bool) (stood : Stood) → KnowsReply self asked output ticked stood
             → OnErr result (MayEndWithout asked output stood) }
     {
         let LegReply { stream, .. } = self;
@@ -114,9 +114,9 @@ impl LegReply {
         now: Option<u64>,
     ) -> Result<Option<Bytes>, NoMemory>
         requires { IsStamp now }
-        ensures fails { (asked : Asked) (output : List ℕ) (ticked : Bool) (stood : Stood) → Knows self.now asked output ticked stood
+        ensures fails { (asked : Asked) (output : List ℕ) (ticked : Bool) (stood : Stood) → KnowsReply self.now asked output ticked stood
             → IfOk result (Fails asked cause closes_now now stood) }
-        ensures memory { (asked : Asked) (output : List ℕ) (ticked : Bool) (stood : Stood) → Knows self.now asked output ticked stood
+        ensures memory { (asked : Asked) (output : List ℕ) (ticked : Bool) (stood : Stood) → KnowsReply self.now asked output ticked stood
             → OnErr result (is_begun stood ≡ false) }
     {
         if self.has_begun() {

@@ -24,7 +24,7 @@ use Rattle.request_reader.specs.Request.{Reading, Whole, More, Bad, after_asked,
 use Rattle.request_reader.proofs.LookLaws.{method_asked}
 use Rattle.request_reader.proofs.ReadingLaws.{reading_at}
 use Rattle.trace_model.specs.Readings.{headed, is_bare, is_head_request}
-use Rattle.exchange_request.specs.Knows.{Knows, StandsBy, bare_by, bare_of, is_bare_head, is_refused, reading_of}
+use Rattle.exchange_request.specs.Knows.{KnowsRequest, StandsBy, bare_by, bare_of, is_bare_head, is_refused, reading_of}
 use Rattle.exchange_request.specs.declared.found.Manner.{Manner}
 use Rattle.exchange_request.specs.declared.incoming.Incoming.{Incoming}
 
@@ -113,7 +113,7 @@ bare_headed (More r due) request is = ap is_head_request (sym is)
 bare_headed (Bad cause bare) request is = absurd (cc)
 
 -- Unless its bytes are refused, whatever was found in them.
-pub bare_known : (i : Incoming) (bytes : List ℕ) (taken : ℕ) → Knows i bytes taken → is_refused (reading_of i bytes) ≡ false → bare_of i ≡ is_bare (reading_of i bytes)
+pub bare_known : (i : Incoming) (bytes : List ℕ) (taken : ℕ) → KnowsRequest i bytes taken → is_refused (reading_of i bytes) ≡ false → bare_of i ≡ is_bare (reading_of i bytes)
 bare_known i bytes taken k served = by_stage i.manner i.whole k.stands
   where
     by_stage : (manner : Option Manner) (whole : Bool) → StandsBy i manner whole bytes taken → bare_by i manner ≡ is_bare (reading_of i bytes)

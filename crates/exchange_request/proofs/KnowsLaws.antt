@@ -16,7 +16,7 @@ use Rattle.request_reader.proofs.RequestLaws.{rests_stay, unbegun_more}
 use Rattle.trace_model.specs.Readings.{body_of, headed, if_length, is_due, is_whole, startable}
 use Rattle.exchange_request.specs.Manner.{manner_of}
 use Rattle.exchange_request.specs.Due.{due_of}
-use Rattle.exchange_request.specs.Knows.{Knows, StandsBy, IsUnready, IsAwaited, FindsMore, FindsReady, FindsRefused, HandsOut, is_ready, is_taken, is_looked_at, is_read, reading_of}
+use Rattle.exchange_request.specs.Knows.{KnowsRequest, StandsBy, IsUnready, IsAwaited, FindsMore, FindsReady, FindsRefused, HandsOut, is_ready, is_taken, is_looked_at, is_read, reading_of}
 use Rattle.exchange_request.specs.declared.found.Manner.{Manner}
 use Rattle.exchange_request.specs.declared.incoming.Incoming.{Incoming}
 use Rattle.exchange_request.proofs.ReadyLaws.{AnswersWhole, AnswersMore, AnswersEarly, whole_due, headed_begun, startable_more}
@@ -35,7 +35,7 @@ unready_by i None false bytes taken none h = h
 unready_by i None true bytes taken none h = absurd h
 unready_by i (Some manner) whole bytes taken none h = absurd (cc)
 
-pub unready : (i : Incoming) (bytes : List ℕ) (taken : ℕ) → is_ready i ≡ false → Knows i bytes taken → IsUnready i bytes taken
+pub unready : (i : Incoming) (bytes : List ℕ) (taken : ℕ) → is_ready i ≡ false → KnowsRequest i bytes taken → IsUnready i bytes taken
 unready i bytes taken none k = unready_by i i.manner i.whole bytes taken none k.stands
 
 untaken_by : (i : Incoming) (manner : Option Manner) (whole : Bool) (bytes : List ℕ) (taken : ℕ) → is_some manner ≡ false
@@ -44,7 +44,7 @@ untaken_by i None false bytes taken none h = refl
 untaken_by i None true bytes taken none h = absurd h
 untaken_by i (Some manner) whole bytes taken none h = absurd (cc)
 
-pub untaken : (i : Incoming) (bytes : List ℕ) (taken : ℕ) → is_ready i ≡ false → Knows i bytes taken → i.whole ≡ false
+pub untaken : (i : Incoming) (bytes : List ℕ) (taken : ℕ) → is_ready i ≡ false → KnowsRequest i bytes taken → i.whole ≡ false
 untaken i bytes taken none k = untaken_by i i.manner i.whole bytes taken none k.stands
 
 pub record Awaited (i : Incoming) (bytes : List ℕ) (taken : ℕ) : Type 0 where
@@ -58,7 +58,7 @@ awaited_by i None whole bytes taken is ready open_yet h = absurd (cc)
 awaited_by i (Some manner) true bytes taken is ready open_yet h = absurd (cc)
 awaited_by i (Some manner) false bytes taken is ready open_yet h = record { manner = manner; manner_of_it = is; is = h }
 
-pub awaited : (i : Incoming) (bytes : List ℕ) (taken : ℕ) → is_ready i ≡ true → is_taken i ≡ false → Knows i bytes taken → Awaited i bytes taken
+pub awaited : (i : Incoming) (bytes : List ℕ) (taken : ℕ) → is_ready i ≡ true → is_taken i ≡ false → KnowsRequest i bytes taken → Awaited i bytes taken
 awaited i bytes taken ready open_yet k = awaited_by i i.manner i.whole bytes taken refl ready open_yet k.stands
 
 -- what was heard, where nothing was taken off
@@ -76,7 +76,7 @@ looked_by : (fresh whole : Bool) → whole ≡ false → (not fresh || whole) �
 looked_by true whole w e = sym e ∙ w
 looked_by false whole w e = refl
 
-pub knows_whole : (i : Incoming) (bytes : List ℕ) (taken : ℕ) → Knows i bytes taken → is_read i ≡ true → is_taken i ≡ is_whole (reading_of i bytes)
+pub knows_whole : (i : Incoming) (bytes : List ℕ) (taken : ℕ) → KnowsRequest i bytes taken → is_read i ≡ true → is_taken i ≡ is_whole (reading_of i bytes)
 knows_whole i bytes taken k read = by_stage i.manner i.whole refl refl k.stands
   where
     no_start : (reading : Reading) → startable reading ≡ None → false ≡ is_whole reading
@@ -91,7 +91,7 @@ knows_whole i bytes taken k read = by_stage i.manner i.whole refl refl k.stands
     by_stage (Some manner) false m w h = w ∙ sym (h.looked (looked_by i.fresh i.whole w read))
     by_stage (Some manner) true m w h = w ∙ sym (ap is_whole h.is)
 
-pub knows_due : (i : Incoming) (bytes : List ℕ) (taken : ℕ) → Knows i bytes taken → is_read i ≡ true → i.due ≡ is_due (reading_of i bytes)
+pub knows_due : (i : Incoming) (bytes : List ℕ) (taken : ℕ) → KnowsRequest i bytes taken → is_read i ≡ true → i.due ≡ is_due (reading_of i bytes)
 knows_due i bytes taken k read = by_stage i.manner i.whole refl refl k.stands
   where
     by_stage : (manner : Option Manner) (whole : Bool) → i.manner ≡ manner → i.whole ≡ whole → StandsBy i manner whole bytes taken
@@ -101,7 +101,7 @@ knows_due i bytes taken k read = by_stage i.manner i.whole refl refl k.stands
     by_stage (Some manner) false m w h = h.due
     by_stage (Some manner) true m w h = sym (ap is_due h.is)
 
-pub begun_known : (i : Incoming) (bytes : List ℕ) (taken : ℕ) → Knows i bytes taken → 2 ≤ i.limits.head → is_some i.manner ≡ true → true ≡ is_begun bytes
+pub begun_known : (i : Incoming) (bytes : List ℕ) (taken : ℕ) → KnowsRequest i bytes taken → 2 ≤ i.limits.head → is_some i.manner ≡ true → true ≡ is_begun bytes
 begun_known i bytes taken k two ready = by_stage i.manner i.whole ready k.stands
   where
     by_stage : (manner : Option Manner) (whole : Bool) → is_some manner ≡ true → StandsBy i manner whole bytes taken → true ≡ is_begun bytes
@@ -121,7 +121,7 @@ left_of i bytes taken heard none = by_reader i.reader.fault i.reader.opened hear
     by_reader (Some fault) (Some opened) h e = absurd (cc)
 
 -- what is left behind a request that was read to its end
-pub knows_rest : (i : Incoming) (bytes : List ℕ) (taken : ℕ) → Knows i bytes taken → is_taken i ≡ true
+pub knows_rest : (i : Incoming) (bytes : List ℕ) (taken : ℕ) → KnowsRequest i bytes taken → is_taken i ≡ true
     → i.reader.rest ≡ drop (used_by (reading_of i bytes)) bytes
 knows_rest i bytes taken k whole = by_stage i.manner i.whole whole k.stands
   where
@@ -173,8 +173,8 @@ pub record IsFed (i j : Incoming) (piece : List ℕ) : Type 0 where
   pub unread : is_unread j.reader ≡ is_unread i.reader
   pub heard : (bytes : List ℕ) (taken : ℕ) → IsHeard i.reader bytes taken → IsHeard j.reader (bytes ++ piece) taken
 
-pub knows_fed : (i j : Incoming) (bytes piece : List ℕ) (taken : ℕ) → 2 ≤ i.limits.head → IsFed i j piece → Knows i bytes taken
-    → Knows j (bytes ++ piece) taken
+pub knows_fed : (i j : Incoming) (bytes piece : List ℕ) (taken : ℕ) → 2 ≤ i.limits.head → IsFed i j piece → KnowsRequest i bytes taken
+    → KnowsRequest j (bytes ++ piece) taken
 knows_fed i j bytes piece taken two f k =
     record { limits = f.reader ∙ k.limits ∙ sym f.limits; stands = by_stage i.manner i.whole refl refl k.stands }
   where
@@ -372,7 +372,7 @@ handed_more i j bytes taken due body same manner whole open_yet fresh due_same l
 
 -- ---- nothing was heard
 
-pub knows_new : (j : Incoming) → 2 ≤ j.limits.head → j.manner ≡ None → j.whole ≡ false → j.due ≡ false → j.reader ≡ unread j.limits [] → Knows j [] 0
+pub knows_new : (j : Incoming) → 2 ≤ j.limits.head → j.manner ≡ None → j.whole ≡ false → j.due ≡ false → j.reader ≡ unread j.limits [] → KnowsRequest j [] 0
 knows_new j two manner whole due reader =
     let none : reading_of j [] ≡ More None false = reading_at j.limits [] Step.More (unbegun_more j.limits [] two (inl refl)) in
     record {

@@ -96,7 +96,7 @@ StandsBy i (Some manner) false bytes taken = IsAwaited i manner bytes taken
 StandsBy i (Some manner) true bytes taken = IsTaken i manner bytes taken
 
 -- These bytes were heard, and so many of the body were handed out.
-pub record Knows (i : Incoming) (bytes : List ℕ) (taken : ℕ) : Type 0 where
+pub record KnowsRequest (i : Incoming) (bytes : List ℕ) (taken : ℕ) : Type 0 where
   pub limits : i.reader.limits ≡ i.limits
   pub stands : StandsBy i i.manner i.whole bytes taken
 
@@ -107,19 +107,19 @@ pub record FindsMore (i : Incoming) (bytes : List ℕ) : Type 0 where
   pub due : Bool
   pub is : reading_of i bytes ≡ More request due
   pub unready : if_length request ≡ None
-  pub knows : Knows i bytes 0
+  pub knows : KnowsRequest i bytes 0
   pub ready : is_ready i ≡ false
   pub looked : is_looked_at i ≡ true
 
 pub record FindsReady (i : Incoming) (bytes : List ℕ) (request : Request) : Type 0 where
   pub is : startable (reading_of i bytes) ≡ Some request
-  pub knows : Knows i bytes (length request.body)
+  pub knows : KnowsRequest i bytes (length request.body)
   pub ready : is_ready i ≡ true
   pub looked : is_looked_at i ≡ true
 
 pub record FindsRefused (i : Incoming) (bytes : List ℕ) (reading : Reading) : Type 0 where
   pub is : reading_of i bytes ≡ reading
-  pub knows : Knows i bytes 0
+  pub knows : KnowsRequest i bytes 0
   pub ready : is_ready i ≡ false
   pub looked : is_looked_at i ≡ true
 
@@ -131,6 +131,6 @@ Finds bytes (Seen.Refused cause bare) i = FindsRefused i bytes (Bad cause bare)
 -- these bytes came of the body since
 pub record HandsOut (i : Incoming) (bytes : List ℕ) (taken : ℕ) (body : List ℕ) : Type 0 where
   pub is : body ≡ drop taken (body_of (headed (reading_of i bytes)))
-  pub knows : Knows i bytes (taken + length body)
+  pub knows : KnowsRequest i bytes (taken + length body)
   pub ready : is_ready i ≡ true
   pub looked : is_looked_at i ≡ true

@@ -51,11 +51,11 @@ impl Incoming {
     ghost use Rattle.trace_model.specs.Readings.{headed, startable};
     ghost use Rattle.trace_model.specs.Readings.{is_due as is_due_of, is_whole as is_whole_of, is_bare as is_bare_of};
     ghost use Rattle.trace_model.specs.Closes.{persists_by};
-    ghost use Rattle.exchange_request.specs.Knows.{Knows, Finds, HandsOut, limits_of, is_ready, is_taken, kept_of, bare_of, is_looked_at, is_read, is_refused, reading_of};
+    ghost use Rattle.exchange_request.specs.Knows.{KnowsRequest, Finds, HandsOut, limits_of, is_ready, is_taken, kept_of, bare_of, is_looked_at, is_read, is_refused, reading_of};
 
     /// Nothing was heard. It takes no memory.
     pub fn new(alloc: Global, limits: &Limits) -> Self
-        ensures knows { 2 ≤ limits.now.head → Knows result [] 0 }
+        ensures knows { 2 ≤ limits.now.head → KnowsRequest result [] 0 }
         ensures limits { limits_of result ≡ limits.now }
         ensures ready { is_ready result ≡ false }
     {
@@ -72,8 +72,8 @@ impl Incoming {
 
     /// Hears bytes of the client. For want of memory nothing changes.
     pub fn feed(&mut self, bytes: &[u8]) -> Result<(), NoMemory>
-        ensures ok { (heard : List ℕ) (taken : ℕ) → Knows self.old heard taken → 2 ≤ (limits_of self.old).head
-            → OnOk result (Knows self.new (heard ++ bytes.now) taken) }
+        ensures ok { (heard : List ℕ) (taken : ℕ) → KnowsRequest self.old heard taken → 2 ≤ (limits_of self.old).head
+            → OnOk result (KnowsRequest self.new (heard ++ bytes.now) taken) }
         ensures err { OnErr result (self.new ≡ self.old) }
         ensures limits { limits_of self.new ≡ limits_of self.old }
         ensures ready { is_ready self.new ≡ is_ready self.old }
@@ -87,10 +87,10 @@ impl Incoming {
 
     /// Looks for a request that a script may be started for, where none was found before.
     pub fn look(&mut self) -> Result<Found, NoMemory>
-        ensures finds { (bytes : List ℕ) → Knows self.old bytes 0 → is_ready self.old ≡ false
+        ensures finds { (bytes : List ℕ) → KnowsRequest self.old bytes 0 → is_ready self.old ≡ false
             → IfOk result (λ found. Finds bytes found self.new) }
-        ensures err { (bytes : List ℕ) → Knows self.old bytes 0 → is_ready self.old ≡ false → OnErr result (Knows self.new bytes 0) }
-        ensures memory { (bytes : List ℕ) → Knows self.old bytes 0 → is_ready self.old ≡ false
+        ensures err { (bytes : List ℕ) → KnowsRequest self.old bytes 0 → is_ready self.old ≡ false → OnErr result (KnowsRequest self.new bytes 0) }
+        ensures memory { (bytes : List ℕ) → KnowsRequest self.old bytes 0 → is_ready self.old ≡ false
             → OnErr result (IsTrue (is_whole_head (limits_of self.old) bytes)) }
         ensures limits { limits_of self.new ≡ limits_of self.old }
     {
@@ -113,11 +113,11 @@ impl Incoming {
 
     // Looks for one that is not whole.
     fn look_early(&mut self, due: bool) -> Result<Found, NoMemory>
-        ensures finds { (bytes : List ℕ) (request : Option Request) → Knows self.old bytes 0 → is_ready self.old ≡ false
+        ensures finds { (bytes : List ℕ) (request : Option Request) → KnowsRequest self.old bytes 0 → is_ready self.old ≡ false
             → reading_of self.old bytes ≡ More request due
             → IfOk result (λ found. Finds bytes found self.new) }
-        ensures err { (bytes : List ℕ) → Knows self.old bytes 0 → is_ready self.old ≡ false → OnErr result (Knows self.new bytes 0) }
-        ensures memory { (bytes : List ℕ) → Knows self.old bytes 0 → is_ready self.old ≡ false
+        ensures err { (bytes : List ℕ) → KnowsRequest self.old bytes 0 → is_ready self.old ≡ false → OnErr result (KnowsRequest self.new bytes 0) }
+        ensures memory { (bytes : List ℕ) → KnowsRequest self.old bytes 0 → is_ready self.old ≡ false
             → OnErr result (IsTrue (is_whole_head (limits_of self.old) bytes)) }
         ensures limits { limits_of self.new ≡ limits_of self.old }
     {
@@ -139,7 +139,7 @@ impl Incoming {
 
     /// Hands out what came of the body since, once the request was found ready and while it was not whole.
     pub fn more_body(&mut self) -> Result<Bytes, NoMemory>
-        ensures body { (bytes : List ℕ) (taken : ℕ) → Knows self.old bytes taken → is_ready self.old ≡ true → is_taken self.old ≡ false
+        ensures body { (bytes : List ℕ) (taken : ℕ) → KnowsRequest self.old bytes taken → is_ready self.old ≡ true → is_taken self.old ≡ false
             → IfOk result (λ body. HandsOut self.new bytes taken body) }
         ensures err { OnErr result (self.new ≡ self.old) }
         ensures limits { limits_of self.new ≡ limits_of self.old }
@@ -165,7 +165,7 @@ impl Incoming {
     /// Whether the request is whole.
     pub fn is_whole(&self) -> bool
         ensures value { result ≡ is_taken self.now }
-        ensures whole { (bytes : List ℕ) (taken : ℕ) → Knows self.now bytes taken → is_read self.now ≡ true
+        ensures whole { (bytes : List ℕ) (taken : ℕ) → KnowsRequest self.now bytes taken → is_read self.now ≡ true
             → result ≡ is_whole_of (reading_of self.now bytes) }
     {
         self.whole
@@ -173,7 +173,7 @@ impl Incoming {
 
     /// Whether 100 Continue is due (RFC 9110 10.1.1).
     pub fn is_due(&self) -> bool
-        ensures { (bytes : List ℕ) (taken : ℕ) → Knows self.now bytes taken → is_read self.now ≡ true
+        ensures { (bytes : List ℕ) (taken : ℕ) → KnowsRequest self.now bytes taken → is_read self.now ≡ true
             → result ≡ is_due_of (reading_of self.now bytes) }
     {
         self.due
@@ -188,7 +188,7 @@ impl Incoming {
 
     /// Whether a request has begun.
     pub fn has_begun(&self) -> bool
-        ensures { (bytes : List ℕ) (taken : ℕ) → Knows self.now bytes taken → 2 ≤ (limits_of self.now).head → result ≡ is_begun bytes }
+        ensures { (bytes : List ℕ) (taken : ℕ) → KnowsRequest self.now bytes taken → 2 ≤ (limits_of self.now).head → result ≡ is_begun bytes }
     {
         self.manner.is_some() || self.reader.begun()
     }
@@ -196,7 +196,7 @@ impl Incoming {
     /// What a reply depends on, once the request was found ready.
     pub fn manner(&self) -> Option<Manner>
         ensures ready { is_some result ≡ is_ready self.now }
-        ensures value { (bytes : List ℕ) (taken : ℕ) → Knows self.now bytes taken → is_read self.now ≡ true
+        ensures value { (bytes : List ℕ) (taken : ℕ) → KnowsRequest self.now bytes taken → is_read self.now ≡ true
             → result ≡ option_map manner_of (startable (reading_of self.now bytes)) }
     {
         self.manner
@@ -205,7 +205,7 @@ impl Incoming {
     /// Whether an answer that begins now leaves the connection open, as far as the request says: it persists, and is
     /// whole.
     pub fn lets_persist(&self) -> bool
-        ensures { (bytes : List ℕ) (taken : ℕ) → Knows self.now bytes taken → is_read self.now ≡ true
+        ensures { (bytes : List ℕ) (taken : ℕ) → KnowsRequest self.now bytes taken → is_read self.now ≡ true
             → result ≡ persists_by (headed (reading_of self.now bytes)) && is_whole_of (reading_of self.now bytes) }
     {
         match self.manner {
@@ -218,9 +218,9 @@ impl Incoming {
     pub fn is_bare(&self) -> Result<bool, NoMemory>
         ensures value { IfOk result (λ bare. bare ≡ bare_of self.now) }
         ensures memory { OnErr result (is_ready self.now ≡ false) }
-        ensures ready { (bytes : List ℕ) (taken : ℕ) → Knows self.now bytes taken → is_looked_at self.now ≡ true → is_ready self.now ≡ true
+        ensures ready { (bytes : List ℕ) (taken : ℕ) → KnowsRequest self.now bytes taken → is_looked_at self.now ≡ true → is_ready self.now ≡ true
             → bare_of self.now ≡ is_bare_of (reading_of self.now bytes) }
-        ensures served { (bytes : List ℕ) (taken : ℕ) → Knows self.now bytes taken → is_refused (reading_of self.now bytes) ≡ false
+        ensures served { (bytes : List ℕ) (taken : ℕ) → KnowsRequest self.now bytes taken → is_refused (reading_of self.now bytes) ≡ false
             → bare_of self.now ≡ is_bare_of (reading_of self.now bytes) }
     {
         if let Some(manner) = self.manner {
@@ -241,7 +241,7 @@ impl Incoming {
 
     /// What came behind a request that was read to its end; nothing behind any other.
     pub fn rest(&self) -> Result<Bytes, NoMemory>
-        ensures value { (bytes : List ℕ) (taken : ℕ) → Knows self.now bytes taken → is_taken self.now ≡ true
+        ensures value { (bytes : List ℕ) (taken : ℕ) → KnowsRequest self.now bytes taken → is_taken self.now ≡ true
             → IfOk result (λ rest. rest ≡ drop (used_by (reading_of self.now bytes)) bytes) }
         ensures none { is_taken self.now ≡ false → IfOk result (λ rest. rest ≡ []) }
         ensures memory { OnErr result (is_taken self.now ≡ true) }
@@ -254,8 +254,8 @@ impl Incoming {
 
     /// The exchange is over, and the next one begins with what its request left.
     pub fn go_on(&mut self)
-        ensures next { (bytes : List ℕ) (taken : ℕ) → Knows self.old bytes taken → is_taken self.old ≡ true
-            → Knows self.new (drop (used_by (reading_of self.old bytes)) bytes) 0 }
+        ensures next { (bytes : List ℕ) (taken : ℕ) → KnowsRequest self.old bytes taken → is_taken self.old ≡ true
+            → KnowsRequest self.new (drop (used_by (reading_of self.old bytes)) bytes) 0 }
         ensures looked { is_looked_at self.new ≡ false }
         ensures ready { is_ready self.new ≡ false }
         ensures limits { limits_of self.new ≡ limits_of self.old }

@@ -11,7 +11,7 @@ use Rattle.head_reader.specs.declared.step.HeadStep.TheVariants as Step
 use Rattle.head_reader.proofs.ReadLaws.{more_is_open}
 use Rattle.request_reader.specs.Request.{after_head, read_request}
 use Rattle.explain.specs.Explained.{EndsBy, IsCutShort}
-use Rattle.explain.specs.Inputs.{Knows, goes_on, is_answer}
+use Rattle.explain.specs.Inputs.{KnowsInputs, goes_on, is_answer}
 use Rattle.explain.specs.Steps.{IsEnded, IsLost, SaysEnding, Stands, Turned}
 use Rattle.explain.specs.declared.explain.Explained.{Explained}
 use Rattle.explain.specs.declared.explain.Explained.TheVariants as Was
@@ -29,7 +29,7 @@ unfolding read_request
 nothing_open limits some = ap (λ step. is_answer (after_head limits [] step)) (nothing_read limits some)
 
 -- nothing was heard
-pub stands_first : (site : Site) (first : First) (T : List Item) → T ≡ [] → 1024 ≤ site.limits.head → Knows first site.limits None [] → Stands site first 0 T
+pub stands_first : (site : Site) (first : First) (T : List Item) → T ≡ [] → 1024 ≤ site.limits.head → KnowsInputs first site.limits None [] → Stands site first 0 T
 stands_first site first T none head knows =
     let some : 0 < site.limits.head = omega (arith, head) in
     rw none (record {

@@ -25,7 +25,7 @@ use Rattle.host_trace.proofs.ProjectionLaws.{accepted_count-push, client_in-push
 use Rattle.host_trace.proofs.StepLaws.{steps-append}
 use Rattle.request_reader.specs.Request.{Reading, Whole, More, Bad, is_begun, read_request}
 use Rattle.explain.specs.Explained.{AsksAlone, ends_where, first_reading, is_asking, is_explained, is_unasked}
-use Rattle.explain.specs.Inputs.{Knows, bytes_of, ending_of_reading, goes_on, heard_of, input_of, is_answer, peer_after}
+use Rattle.explain.specs.Inputs.{KnowsInputs, bytes_of, ending_of_reading, goes_on, heard_of, input_of, is_answer, peer_after}
 use Rattle.explain.specs.Steps.{Stands, IsEnded, IsLost, Turned}
 use Rattle.explain.specs.declared.first.First.{First}
 use Rattle.explain.specs.declared.input.Ending.{Ending}
@@ -295,7 +295,7 @@ unasked_by T known answers wants k a w e = rw (k, a, w) (unasked_not known answe
 
 -- nothing has ended after one more step
 stands_after : (site : Site) (first : First) (turns : ℕ) (T : List Item) (event : Event) (acts : List Act) (peer : Option Peer) (bytes : List ℕ) (eof rest known : Bool) (answers wants : ℕ) →
-    Sums (after_step T event acts) peer bytes eof rest known answers wants turns → Knows first site.limits peer bytes →
+    Sums (after_step T event acts) peer bytes eof rest known answers wants turns → KnowsInputs first site.limits peer bytes →
     ends_where is_unasked T ≡ 0 → ends_where (is_explained site) T ≡ 0 →
     (is_answer (read_request site.limits bytes) || rest) ≡ false → known ≡ is_some peer → answers + (if known then 1 else 0) ≡ wants →
     Stands site first turns (after_step T event acts)
@@ -335,7 +335,7 @@ both_false a b e f = rw (e, f) refl
 pub after_event : (site : Site) (first first' : First) (turns limit : ℕ) (T : List Item) (event : Event) (heard : Heard) →
     Stands site first turns T → fits limit T event ≡ true →
     (heard ≢ NoMemory → heard ≡ heard_of site.limits (peer_of T 0) (client_in T 0) (input_of event)) →
-    (goes_on heard ≡ true → Knows first' site.limits (peer_after (peer_of T 0) (input_of event)) (client_in T 0 ++ bytes_of (input_of event))) →
+    (goes_on heard ≡ true → KnowsInputs first' site.limits (peer_after (peer_of T 0) (input_of event)) (client_in T 0 ++ bytes_of (input_of event))) →
     (goes_on heard ≡ false → first'.peer ≡ first.peer) → After site first' turns heard T event
 unfolding question
 after_event site first first' turns limit T event Passed s fit is knows same =
@@ -389,9 +389,9 @@ after_event site first first' turns limit T event NoMemory s fit is knows same =
 
 -- what the call of `hear` says
 pub record Hearing (first first' : First) (input : Input) (heard : Heard) : Type 0 where
-  pub is : (limits : Limits) (peer : Option Peer) (bytes : List ℕ) → Knows first limits peer bytes → heard ≢ NoMemory → heard ≡ heard_of limits peer bytes input
-  pub knows : (limits : Limits) (peer : Option Peer) (bytes : List ℕ) → Knows first limits peer bytes → goes_on heard ≡ true →
-      Knows first' limits (peer_after peer input) (bytes ++ bytes_of input)
+  pub is : (limits : Limits) (peer : Option Peer) (bytes : List ℕ) → KnowsInputs first limits peer bytes → heard ≢ NoMemory → heard ≡ heard_of limits peer bytes input
+  pub knows : (limits : Limits) (peer : Option Peer) (bytes : List ℕ) → KnowsInputs first limits peer bytes → goes_on heard ≡ true →
+      KnowsInputs first' limits (peer_after peer input) (bytes ++ bytes_of input)
   pub same : goes_on heard ≡ false → first'.peer ≡ first.peer
 
 pub hearing : (first first' : First) (input : Input) (event : Event) (heard : Heard) → input ≡ input_of event → Hearing first first' input heard →

@@ -72,11 +72,11 @@ goes_on (Ended ending) = false
 goes_on NoMemory = false
 
 -- the first request of a client that sent these bytes, which are not a whole one yet
-pub record Knows (first : First) (limits : Limits) (peer : Option Peer) (bytes : List ℕ) : Type 0 where
+pub record KnowsInputs (first : First) (limits : Limits) (peer : Option Peer) (bytes : List ℕ) : Type 0 where
   pub limits_are : first.reader.limits ≡ limits
   pub peer_is : first.peer ≡ peer
   pub heard : IsHeard first.reader bytes 0
 
 -- .. a client that sent some bytes
 abbrev pub KnowsSome : First → Limits → Type 0
-KnowsSome first limits = (peer : Option Peer) × ((bytes : List ℕ) × Knows first limits peer bytes)
+KnowsSome first limits = (peer : Option Peer) × ((bytes : List ℕ) × KnowsInputs first limits peer bytes)

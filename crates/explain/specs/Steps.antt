@@ -9,7 +9,7 @@ use Rattle.host_trace.specs.Projections.{client_in, event_count, is_known, peer_
 use Rattle.meta_variables.specs.Launch.{HasTexts}
 use Rattle.explain.specs.Explanation.{ending_text}
 use Rattle.explain.specs.Explained.{AsksAlone, ends_where, explanation, is_asking, is_explained, is_unasked}
-use Rattle.explain.specs.Inputs.{Knows}
+use Rattle.explain.specs.Inputs.{KnowsInputs}
 use Rattle.explain.specs.declared.explain.Explained.{Explained}
 use Rattle.explain.specs.declared.explain.Explained.TheVariants as Was
 use Rattle.explain.specs.declared.first.First.{First}
@@ -20,7 +20,7 @@ use Rattle.explain.specs.declared.input.Heard.TheVariants.{Passed, Asks, Ended, 
 
 -- nothing has ended: the client was asked each time, and the first request is what it sent
 pub record Stands (site : Site) (first : First) (turns : ℕ) (T : List Item) : Type 0 where
-  pub knows : Knows first site.limits (peer_of T 0) (client_in T 0)
+  pub knows : KnowsInputs first site.limits (peer_of T 0) (client_in T 0)
   pub open_yet : is_explained site T ≡ false
   pub alone : list_all is_asking T ≡ true
   pub known : is_known T 0 ≡ is_some (peer_of T 0)

@@ -3,7 +3,7 @@ ghost use Rattle.std.specs.Prelude.{◌≡◌, ◌≢◌, ℕ, ◌++◌, List, [
 ghost use Rattle.host_base.specs.declared.launch.Peer.{Peer as APeer};
 ghost use Rattle.host_base.specs.declared.limits.Limits.{Limits as TheLimits};
 ghost use Rattle.request_reader.specs.Request.{is_begun, read_request};
-ghost use Rattle.explain.specs.Inputs.{Knows, bytes_of, goes_on, heard_of, heard_of_reading, is_answer, peer_after};
+ghost use Rattle.explain.specs.Inputs.{KnowsInputs, bytes_of, goes_on, heard_of, heard_of_reading, is_answer, peer_after};
 ghost use Rattle.explain.specs.declared.input.Input.TheVariants as Is;
 
 use crate::input::{Ending, Heard, Input};
@@ -20,7 +20,7 @@ pub struct First {
 
 impl First {
     pub fn new(alloc: Global, limits: &Limits) -> Self
-        ensures { Knows result limits.now None [] }
+        ensures { KnowsInputs result limits.now None [] }
     {
         First {
             peer: None,
@@ -29,10 +29,10 @@ impl First {
     }
 
     fn accept(&mut self, peer: Peer) -> Heard
-        ensures heard { (limits : TheLimits) (known : Option APeer) (bytes : List ℕ) → Knows self.old limits known bytes
+        ensures heard { (limits : TheLimits) (known : Option APeer) (bytes : List ℕ) → KnowsInputs self.old limits known bytes
             → result ≡ heard_of limits known bytes (Is.Accepted peer) }
-        ensures knows { (limits : TheLimits) (known : Option APeer) (bytes : List ℕ) → Knows self.old limits known bytes
-            → Knows self.new limits (peer_after known (Is.Accepted peer)) bytes }
+        ensures knows { (limits : TheLimits) (known : Option APeer) (bytes : List ℕ) → KnowsInputs self.old limits known bytes
+            → KnowsInputs self.new limits (peer_after known (Is.Accepted peer)) bytes }
         ensures goes { goes_on result ≡ true }
     {
         if self.peer.is_some() {
@@ -43,10 +43,10 @@ impl First {
     }
 
     fn read(&mut self, piece: &[u8]) -> Heard
-        ensures heard { (limits : TheLimits) (known : Option APeer) (bytes : List ℕ) → Knows self.old limits known bytes
+        ensures heard { (limits : TheLimits) (known : Option APeer) (bytes : List ℕ) → KnowsInputs self.old limits known bytes
             → result ≢ Heard.NoMemory → result ≡ heard_of_reading (read_request limits (bytes ++ piece.now)) }
-        ensures knows { (limits : TheLimits) (known : Option APeer) (bytes : List ℕ) → Knows self.old limits known bytes
-            → result ≡ Heard.Asks → Knows self.new limits known (bytes ++ piece.now) }
+        ensures knows { (limits : TheLimits) (known : Option APeer) (bytes : List ℕ) → KnowsInputs self.old limits known bytes
+            → result ≡ Heard.Asks → KnowsInputs self.new limits known (bytes ++ piece.now) }
         ensures asks { goes_on result ≡ true → result ≡ Heard.Asks }
         ensures peer { self.new.peer ≡ self.old.peer }
     {
@@ -62,7 +62,7 @@ impl First {
     }
 
     fn end(&self) -> Heard
-        ensures { (limits : TheLimits) (known : Option APeer) (bytes : List ℕ) → Knows self.now limits known bytes
+        ensures { (limits : TheLimits) (known : Option APeer) (bytes : List ℕ) → KnowsInputs self.now limits known bytes
             → result ≡ heard_of limits known bytes Is.Eof }
     {
         if self.reader.begun() {
@@ -74,10 +74,10 @@ impl First {
 
     /// Hears what connection 0 says. It takes memory for bytes alone.
     pub fn hear(&mut self, input: Input) -> Heard
-        ensures heard { (limits : TheLimits) (known : Option APeer) (bytes : List ℕ) → Knows self.old limits known bytes
+        ensures heard { (limits : TheLimits) (known : Option APeer) (bytes : List ℕ) → KnowsInputs self.old limits known bytes
             → result ≢ Heard.NoMemory → result ≡ heard_of limits known bytes input }
-        ensures knows { (limits : TheLimits) (known : Option APeer) (bytes : List ℕ) → Knows self.old limits known bytes
-            → goes_on result ≡ true → Knows self.new limits (peer_after known input) (bytes ++ bytes_of input) }
+        ensures knows { (limits : TheLimits) (known : Option APeer) (bytes : List ℕ) → KnowsInputs self.old limits known bytes
+            → goes_on result ≡ true → KnowsInputs self.new limits (peer_after known input) (bytes ++ bytes_of input) }
         ensures peer { goes_on result ≡ false → self.new.peer ≡ self.old.peer }
     {
         match input {

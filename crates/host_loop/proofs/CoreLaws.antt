@@ -2,8 +2,8 @@
 use Rattle.std.proofs.Common.{refl}
 use Rattle.host_base.specs.declared.site.Site.{Site}
 use Rattle.many_conns.specs.declared.connection.Connection.{Ghosts}
-use Rattle.all_conns.specs.declared.core_state.Core.{Core}
-use Rattle.all_conns.specs.Owners.{served}
+use Rattle.host_core.specs.declared.core_state.Core.{Core}
+use Rattle.host_core.specs.Owners.{served}
 use Rattle.host_loop.specs.Loops.{HasHeardNothing}
 
 pub heard_nothing : {C : Type 0} {G : Ghosts C} (site : Site) (core : Core C G) → HasHeardNothing site core → HasHeardNothing (served core) core

@@ -8,9 +8,9 @@ use Rattle.host_trace.specs.Told.{Hears, AddsActs}
 use Rattle.host_trace.specs.Projections.{event_count}
 use Rattle.host_trace.specs.Trace.{after_step}
 use Rattle.many_conns.specs.declared.connection.Connection.{Ghosts}
-use Rattle.all_conns.specs.declared.core_state.Core.{Core}
-use Rattle.all_conns.specs.Owners.{served}
-use Rattle.all_conns.specs.Stands.{Stands, Steps}
+use Rattle.host_core.specs.declared.core_state.Core.{Core}
+use Rattle.host_core.specs.Owners.{served}
+use Rattle.host_core.specs.Stands.{Stands, Steps}
 use Rattle.host_loop.specs.Loops.{WasTold}
 use Rattle.host_loop.specs.Served.{is_over, over_count}
 use Rattle.host_loop.proofs.OverLaws.{counted, over_after}

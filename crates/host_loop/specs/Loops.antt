@@ -3,9 +3,9 @@ use Rattle.std.specs.Prelude.{ℕ, List, [], ◌∷◌, ◌≡◌, ◌⊎◌, Op
 use Rattle.host_base.specs.declared.site.Site.{Site}
 use Rattle.host_trace.specs.declared.items.Item.{Item}
 use Rattle.many_conns.specs.declared.connection.Connection.{Ghosts}
-use Rattle.all_conns.specs.declared.core_state.Core.{Core}
-use Rattle.all_conns.specs.Owners.{Sound, served}
-use Rattle.all_conns.specs.Stands.{Stands}
+use Rattle.host_core.specs.declared.core_state.Core.{Core}
+use Rattle.host_core.specs.Owners.{Sound, served}
+use Rattle.host_core.specs.Stands.{Stands}
 use Rattle.host_loop.specs.Served.{Served}
 use Rattle.host_loop.specs.declared.serve.LoopEnd.{LoopEnd}
 use Rattle.host_loop.specs.declared.serve.LoopEnd.TheVariants.{Done, Spent, NoMemory}

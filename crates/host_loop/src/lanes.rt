@@ -1,15 +1,15 @@
 // The lanes of several loops.
 ghost use Rattle.std.specs.Prelude.{◌≡◌, ◌≤◌, ◌+◌, ◌^◌, ◌⊎◌, true, IfOk, OnOk, OnErr, All, map, reverse, vec_len, vec_capacity};
 ghost use Rattle.host_base.specs.SiteRules.{IsServed};
-ghost use Rattle.all_conns.specs.Owners.{served};
-ghost use Rattle.all_conns.specs.Stands.{Good};
+ghost use Rattle.host_core.specs.Owners.{served};
+ghost use Rattle.host_core.specs.Stands.{Good};
 ghost use Rattle.host_loop.specs.Loops.{HasEnded, HasHeardNothing, IsAny, IsFresh, WasServed, WhereTold, is_ended};
 ghost use Rattle.host_loop.specs.Served.{Served};
 
 use crate::serve::LoopEnd;
 use crate::turns::{TakesTurns, take_turns};
-use all_conns::Core;
 use host_base::{NoMemory, Site};
+use host_core::Core;
 use host_trace::Outside;
 use many_conns::{Connection, NewConnection};
 use std::alloc::Global;
@@ -23,8 +23,8 @@ pub struct Lane<'s, C: Connection, O> {
 
 impl<'s, C: NewConnection<'s>, O: Outside> TakesTurns for Lane<'s, C, O> {
     ghost use Rattle.std.specs.Prelude.{◌≡◌, ◌≤◌, ◌^◌, true};
-    ghost use Rattle.all_conns.specs.Owners.{served};
-    ghost use Rattle.all_conns.specs.Stands.{Good};
+    ghost use Rattle.host_core.specs.Owners.{served};
+    ghost use Rattle.host_core.specs.Stands.{Good};
     ghost use Rattle.host_loop.specs.Loops.{HasHeardNothing, IsFresh, WasServed, WasTold, is_ended};
 
     ghost begins = { λ l. HasHeardNothing (served l.core) l.core × (IsFresh (O.trace l.out) × (O.limit l.out ≡ (served l.core).limits.children)) };

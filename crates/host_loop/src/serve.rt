@@ -2,12 +2,12 @@
 ghost use Rattle.std.specs.Prelude.{◌≡◌, ◌≤◌, ◌^◌, List, [], Some};
 ghost use Rattle.host_base.specs.SiteRules.{IsServed};
 ghost use Rattle.host_trace.specs.declared.items.Item.{Item};
-ghost use Rattle.all_conns.specs.Stands.{Good};
+ghost use Rattle.host_core.specs.Stands.{Good};
 ghost use Rattle.host_loop.specs.Served.{Served};
 
 use crate::turns::take_turns;
-use all_conns::Core;
 use host_base::Site;
+use host_core::Core;
 use host_trace::Outside;
 use many_conns::NewConnection;
 use std::alloc::Global;

@@ -1,11 +1,11 @@
 // The turns of a loop.
 ghost use Rattle.std.specs.Prelude.{◌≡◌, ◌≤◌, ◌<◌, ◌^◌, ℕ, true, All, length, slice_index_or};
-ghost use Rattle.all_conns.specs.Owners.{served};
-ghost use Rattle.all_conns.specs.Stands.{Good};
+ghost use Rattle.host_core.specs.Owners.{served};
+ghost use Rattle.host_core.specs.Stands.{Good};
 ghost use Rattle.host_loop.specs.Loops.{HasHeardNothing, IsFresh, WasServed, WasTold, is_ended};
 
 use crate::serve::LoopEnd;
-use all_conns::Core;
+use host_core::Core;
 use host_trace::Outside;
 use many_conns::NewConnection;
 use std::thread;

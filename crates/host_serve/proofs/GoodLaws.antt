@@ -8,11 +8,11 @@ use Rattle.host_base.specs.declared.site.Site.{Site}
 use Rattle.host_trace.specs.declared.items.Item.{Item}
 use Rattle.host_trace.specs.Projections.{accepted_count}
 use Rattle.trace_laws.specs.Promised.{Promised}
-use Rattle.all_conns.specs.Stands.{Good as KeepsPromise}
+use Rattle.host_core.specs.Stands.{Good as KeepsPromise}
 use Rattle.host_loop.specs.Loops.{WhereTold}
-use Rattle.host_conns.specs.Host.{host_kind}
+use Rattle.conn_core.specs.Kind.{conn_kind}
 
-promised : (site : Site) (T : List Item) → AreInRange site.limits → KeepsPromise host_kind site T → Promised site T
+promised : (site : Site) (T : List Item) → AreInRange site.limits → KeepsPromise conn_kind site T → Promised site T
 promised site T limits g = record {
   good = record { begun = g.begun; between = g.between; connections = λ c known. g.parts c (ltb-true c (accepted_count T) known) };
   fit = g.fit;
@@ -20,6 +20,6 @@ promised site T limits g = record {
 }
 
 pub all_promised : {O : Type 0} (trace : O → Option (List Item)) (site : Site) (os : List O) → AreInRange site.limits
-    → All (λ o. WhereTold (KeepsPromise host_kind site) (trace o)) os → All (λ o. WhereTold (Promised site) (trace o)) os
+    → All (λ o. WhereTold (KeepsPromise conn_kind site) (trace o)) os → All (λ o. WhereTold (Promised site) (trace o)) os
 all_promised trace site os limits all =
-    All-weaker (λ o. WhereTold (KeepsPromise host_kind site) (trace o)) (λ o. WhereTold (Promised site) (trace o)) (λ o good T told. promised site T limits (good T told)) os all
+    All-weaker (λ o. WhereTold (KeepsPromise conn_kind site) (trace o)) (λ o. WhereTold (Promised site) (trace o)) (λ o good T told. promised site T limits (good T told)) os all

@@ -6,7 +6,7 @@ use Rattle.std.proofs.Math.Seq.{take-append_seam}
 use Rattle.host_base.specs.declared.site.Site.{Site}
 use Rattle.host_trace.specs.declared.items.Item.{Item}
 use Rattle.many_conns.specs.declared.connection.Connection.{Ghosts}
-use Rattle.all_conns.specs.Owners.{served}
+use Rattle.host_core.specs.Owners.{served}
 use Rattle.host_loop.specs.Loops.{WasServed, WasTold, is_ended}
 use Rattle.host_loop.specs.declared.lanes.Lane.{Lane}
 use Rattle.host_serve.proofs.PlaceLaws.{in_places}

@@ -6,8 +6,8 @@ ghost use Rattle.trace_laws.specs.Promised.{Promised};
 ghost use Rattle.host_loop.specs.Loops.{HasEnded, IsAny, IsFresh, WasTold, WhereTold};
 ghost use Rattle.host_loop.specs.Served.{Served};
 
+use conn_core::Conn;
 use host_base::Site;
-use host_conns::HostConn;
 use host_loop::{LoopEnd, empty, lanes_of, take_all_turns};
 use host_trace::Outside;
 use std::alloc::Global;
@@ -33,7 +33,7 @@ pub fn serve_all<R: Threads + Sync, O: Outside + Send>(
     ensures each { result ≡ LoopEnd.Spent → All (λ o. WhereTold (HasEnded turns) (O.trace o)) outs.new.items }
     ensures memory { result ≡ LoopEnd.NoMemory → outs.new ≡ outs.old }
 {
-    let mut lanes = match lanes_of::<HostConn<'_>, O>(alloc, site, outs) {
+    let mut lanes = match lanes_of::<Conn<'_>, O>(alloc, site, outs) {
         Ok(lanes) => lanes,
         Err(_) => return LoopEnd::NoMemory,
     };

@@ -5,5 +5,5 @@ mod all;
 mod site;
 
 pub use all::serve_all;
-pub use host_conns::HostConn;
+pub use conn_core::Conn;
 pub use site::serve_site;

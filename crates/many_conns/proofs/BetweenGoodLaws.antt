@@ -92,9 +92,7 @@ event_owner T c n (ChildBroken k) b special is = child_owner T c k b ((who T c n
 event_owner T c n (Took k m) b special is = child_owner T c k b ((who T c n (In (Took k m)) refl is).kids k (same k))
 event_owner T c n (InputGone k) b special is = child_owner T c k b ((who T c n (In (InputGone k)) refl is).kids k (same k))
 event_owner T c n (Exited k) b special is = child_owner T c k b ((who T c n (In (Exited k)) refl is).kids k (same k))
-event_owner T c n (Accepted peer) b special is = absurd (false≢true (sym special))
-event_owner T c n (Tick secs) b special is = absurd (false≢true (sym special))
-event_owner T c n Stop b special is = absurd (false≢true (sym special))
+event_owner T c n _ b special is = absurd (false≢true (sym special))
 
 -- an act of c names c, or a child of c
 data Names (T : List Item) (c : ℕ) (act : Act) : Type 0 where
@@ -226,26 +224,7 @@ heard_then T event acts = sym (append_assoc T (In event ∷ []) (map Out acts))
 
 pub slots_else : (site : Site) (T : List Item) (event : Event) (acts : List Act) → is_accepted (In event) ≡ false → is_slot_kept site T event acts ≡ true
 slots_else site T (Accepted peer) acts none = absurd (false≢true (sym none))
-slots_else site T (ClientBytes d bytes) acts none = refl
-slots_else site T (ClientEof d) acts none = refl
-slots_else site T (ClientGone d) acts none = refl
-slots_else site T (Wrote d n) acts none = refl
-slots_else site T (Started k) acts none = refl
-slots_else site T (StartFailed k) acts none = refl
-slots_else site T (StartFull k seen) acts none = refl
-slots_else site T (ChildBytes k bytes) acts none = refl
-slots_else site T (ChildEof k) acts none = refl
-slots_else site T (ChildBroken k) acts none = refl
-slots_else site T (Took k n) acts none = refl
-slots_else site T (InputGone k) acts none = refl
-slots_else site T (Exited k) acts none = refl
-slots_else site T (WsText d bytes) acts none = refl
-slots_else site T (WsBinary d) acts none = refl
-slots_else site T (WsClosed d) acts none = refl
-slots_else site T (WsBad d) acts none = refl
-slots_else site T (NoRoom d) acts none = refl
-slots_else site T (Tick secs) acts none = refl
-slots_else site T Stop acts none = refl
+slots_else site T _ acts none = refl
 
 -- ---- a step
 

@@ -12,8 +12,8 @@ use Rattle.many_conns.specs.Kept.{is_child}
 use Rattle.many_conns.specs.Kind.{Kind, Laws}
 
 module _ {C : Type 0} (K : Kind C) (laws : Laws K) where
-  pub has_own : (site : Site) (conn : C) (L : List Item) (k : ℕ) → K.stands site conn L → is_child (K.child_of conn) k ≡ true → has (children L (K.number_of conn)) k ≡ true
-  has_own site conn L k s h = has_filter (children L (K.number_of conn)) (ap (λ ks. has ks k) (laws.unsettled site conn L s) ∙ has_it (K.child_of conn) h)
+  pub has_own : (site : Site) (conn : C) (L : List Item) (k : ℕ) → K.stands site conn L → is_child (K.unsettled_child_of conn) k ≡ true → has (children L (K.number_of conn)) k ≡ true
+  has_own site conn L k s h = has_filter (children L (K.number_of conn)) (ap (λ ks. has ks k) (laws.unsettled site conn L s) ∙ has_it (K.unsettled_child_of conn) h)
     where
       has_it : (o : Option ℕ) → is_child o k ≡ true → has (option_to_list o) k ≡ true
       has_it None h = absurd (false≢true h)
@@ -36,8 +36,8 @@ module _ {C : Type 0} (K : Kind C) (laws : Laws K) where
   none_of true (Some k) e = absurd (false≢true (sym e))
   none_of false o e = absurd (false≢true (sym e))
 
-  pub free_child : (conn : C) → K.needs conn ≡ false → K.child_of conn ≡ None
-  free_child conn free = none_of (K.was_shut conn) (K.child_of conn) (sym (laws.needs_is conn) ∙ free)
+  pub free_child : (conn : C) → K.needs conn ≡ false → K.unsettled_child_of conn ≡ None
+  free_child conn free = none_of (K.was_shut conn) (K.unsettled_child_of conn) (sym (laws.needs_is conn) ∙ free)
 
   pub fresh_holds : (conn : C) → K.was_shut conn ≡ false → K.needs conn ≡ true
-  fresh_holds conn unshut = laws.needs_is conn ∙ ap (λ (b : Bool). not b || is_some (K.child_of conn)) unshut
+  fresh_holds conn unshut = laws.needs_is conn ∙ ap (λ (b : Bool). not b || is_some (K.unsettled_child_of conn)) unshut

@@ -39,7 +39,7 @@ module _ {C : Type 0} (K : Kind C) (laws : Laws K) where
   -- ---- one connection
 
   -- where it has no unsettled child, each of its children is settled
-  none_open : (site : Site) (conn : C) (L : List Item) (k : ℕ) → K.stands site conn L → K.child_of conn ≡ None → has (children L (K.number_of conn)) k ≡ true → settled L k ≡ true
+  none_open : (site : Site) (conn : C) (L : List Item) (k : ℕ) → K.stands site conn L → K.unsettled_child_of conn ≡ None → has (children L (K.number_of conn)) k ≡ true → settled L k ≡ true
   none_open site conn L k s none h = by (children L (K.number_of conn)) (laws.unsettled site conn L s ∙ ap option_to_list none) h
     where
       by : (ks : List ℕ) → filter (λ k. not (settled L k)) ks ≡ [] → has ks k ≡ true → settled L k ≡ true
@@ -58,8 +58,8 @@ module _ {C : Type 0} (K : Kind C) (laws : Laws K) where
           nothing e = cc
 
   -- its unsettled child is not settled
-  open_child : (site : Site) (conn : C) (L : List Item) (k : ℕ) → K.stands site conn L → is_child (K.child_of conn) k ≡ true → settled L k ≡ false
-  open_child site conn L k s h = not-true (settled L k) (by (children L (K.number_of conn)) (ap (λ ks. has ks k) (laws.unsettled site conn L s) ∙ has_it (K.child_of conn) h))
+  open_child : (site : Site) (conn : C) (L : List Item) (k : ℕ) → K.stands site conn L → is_child (K.unsettled_child_of conn) k ≡ true → settled L k ≡ false
+  open_child site conn L k s h = not-true (settled L k) (by (children L (K.number_of conn)) (ap (λ ks. has ks k) (laws.unsettled site conn L s) ∙ has_it (K.unsettled_child_of conn) h))
     where
       has_it : (o : Option ℕ) → is_child o k ≡ true → has (option_to_list o) k ≡ true
       has_it None h = absurd (false≢true h)
@@ -105,7 +105,7 @@ module _ {C : Type 0} (K : Kind C) (laws : Laws K) where
             let y = get_or conns p.place p.some in
             let is : (K.number_of y) ≡ o.owner = p.is p.some in
             let few = get_or-le-sum_by (kid_count K) conns p.place p.some p.within in
-            let none : K.child_of y ≡ None = no_child (K.child_of y) (omega (arith, few, zero_kids)) in
+            let none : K.unsettled_child_of y ≡ None = no_child (K.unsettled_child_of y) (omega (arith, few, zero_kids)) in
             none_open site y (own T o.owner) k (subst (λ (c : ℕ). K.stands site y (own T c)) is (l.live p.place p.some p.within)) none
             (subst (λ (c : ℕ). has (children (own T o.owner) c) k ≡ true) (sym is) held)
         | inr absent ↦
@@ -118,7 +118,7 @@ module _ {C : Type 0} (K : Kind C) (laws : Laws K) where
       no_some None e = refl
       no_some (Some k) e = absurd (cc)
 
-  none_kids : (conns : List C) → ((j : ℕ) (d : C) → j < length conns → K.child_of (get_or conns j d) ≡ None) → sum_by (kid_count K) conns ≡ 0
+  none_kids : (conns : List C) → ((j : ℕ) (d : C) → j < length conns → K.unsettled_child_of (get_or conns j d) ≡ None) → sum_by (kid_count K) conns ≡ 0
   none_kids [] h = refl
   none_kids (x ∷ conns) h =
       let rest = none_kids conns (λ j d lt. h (suc j) d (omega (arith, lt))) in
@@ -129,13 +129,13 @@ module _ {C : Type 0} (K : Kind C) (laws : Laws K) where
   no_kids : (site : Site) (conns : List C) (T : List Item) → Lists K site conns T → ((k : ℕ) → k < start_count T → settled T k ≡ true) → sum_by (kid_count K) conns ≡ 0
   no_kids site conns T l all = none_kids conns (λ j d lt. by (get_or conns j d) (l.live j d lt))
     where
-      by : (y : C) → K.stands site y (own T (K.number_of y)) → K.child_of y ≡ None
-      by y s = at (K.child_of y) refl
+      by : (y : C) → K.stands site y (own T (K.number_of y)) → K.unsettled_child_of y ≡ None
+      by y s = at (K.unsettled_child_of y) refl
         where
-          at : (o : Option ℕ) → o ≡ K.child_of y → o ≡ None
+          at : (o : Option ℕ) → o ≡ K.unsettled_child_of y → o ≡ None
           at None e = refl
           at (Some k) e =
-              let mine : is_child (K.child_of y) k ≡ true = ap (λ o. is_child o k) (sym e) ∙ eq-eqb k k refl in
+              let mine : is_child (K.unsettled_child_of y) k ≡ true = ap (λ o. is_child o k) (sym e) ∙ eq-eqb k k refl in
               let held : has (children T (K.number_of y)) k ≡ true = ap (λ ks. has ks k) (sym (children-own T (K.number_of y) l.between)) ∙ has_own K laws site y (own T (K.number_of y)) k s mine in
               absurd (false≢true (sym (open_child site y (own T (K.number_of y)) k s mine) ∙ (settled-own T (K.number_of y) k l.between held ∙ all k (l.between.below (K.number_of y) k held))))
 

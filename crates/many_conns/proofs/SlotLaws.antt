@@ -43,8 +43,8 @@ module _ {C : Type 0} (K : Kind C) (laws : Laws K) where
       let L = own T c in
       let s1 : K.was_shut conn ≡ shut T c = laws.shut_is site conn L s ∙ (ap (λ (n : ℕ). shut L n) is ∙ shut-own T c b) in
       let kids : children L (K.number_of conn) ≡ children T c = ap (λ (n : ℕ). children L n) is ∙ children-own T c b in
-      let s2 : is_some (K.child_of conn) ≡ has_unsettled T c =
-      sym (any-of (λ k. not (settled L k)) (children L (K.number_of conn)) (K.child_of conn) (laws.unsettled site conn L s))
+      let s2 : is_some (K.unsettled_child_of conn) ≡ has_unsettled T c =
+      sym (any-of (λ k. not (settled L k)) (children L (K.number_of conn)) (K.unsettled_child_of conn) (laws.unsettled site conn L s))
       ∙ (ap (list_any (λ k. not (settled L k))) kids ∙ any-same (λ k. not (settled L k)) (λ k. not (settled T k)) (children T c) (λ k h. ap not (settled-own T c k b h))) in
       laws.needs_is conn ∙ (λ i. not (s1 i) || s2 i)
 

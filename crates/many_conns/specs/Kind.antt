@@ -29,8 +29,8 @@ use Rattle.many_conns.specs.Kept.{is_child}
 pub record Kind (C : Type 0) : Type 1 where
   pub site_of : C → Site
   pub number_of : C → ℕ
-  pub kid_of : C → Option ℕ
-  pub child_of : C → Option ℕ
+  pub last_child_of : C → Option ℕ
+  pub unsettled_child_of : C → Option ℕ
   pub was_shut : C → Bool
   pub needs : C → Bool
   pub fits_conn : C → Event → Bool
@@ -57,7 +57,7 @@ pub record Gone {C : Type 0} (K : Kind C) (site : Site) (c : ℕ) (L : List Item
 
 -- the event names the connection, or the child of its run
 abbrev pub IsFor : {C : Type 0} → Kind C → C → Event → Type 0
-IsFor K x event = (names (K.number_of x) (In event) ≡ true) ⊎ ((k : ℕ) × (names_child k (In event) ≡ true) × (is_child (K.kid_of x) k ≡ true))
+IsFor K x event = (names (K.number_of x) (In event) ≡ true) ⊎ ((k : ℕ) × (names_child k (In event) ≡ true) × (is_child (K.last_child_of x) k ≡ true))
 
 -- ---- a step
 
@@ -83,7 +83,7 @@ Within (Some k) ks = has ks k ≡ true
 -- whose acts they are, where the child of its run was one of these, told or not
 pub record AreIts {C : Type 0} (K : Kind C) (old : C) (n : ℕ) (ks : List ℕ) (acts : List Act) (new : C) : Type 0 where
   pub are : are_of (K.number_of old) ks n acts ≡ true
-  pub child : Within (K.kid_of new) (kids_after ks (K.number_of old) acts)
+  pub child : Within (K.last_child_of new) (kids_after ks (K.number_of old) acts)
 
 -- A step gave these acts and no others: for every list of its own for which the connection stood, it stands for the list
 -- with the step.
@@ -94,7 +94,7 @@ pub record Gives {C : Type 0} (K : Kind C) (old : C) (n : ℕ) (event : Event) (
   pub site : K.site_of new ≡ K.site_of old
   pub number : K.number_of new ≡ K.number_of old
   pub stays : (c : ℕ) → given (turns_away c) acts ≡ 0  -- it turns nobody away
-  pub its : (ks : List ℕ) → Within (K.kid_of old) ks → AreIts K old n ks acts new
+  pub its : (ks : List ℕ) → Within (K.last_child_of old) ks → AreIts K old n ks acts new
   pub own : (L : List Item) → K.stands (K.site_of old) old L → Fitting (K.site_of old).limits.children (K.number_of old) n stamp L event
       → StepOwn K (K.site_of old) old n event acts new L
 
@@ -102,21 +102,21 @@ pub record Gives {C : Type 0} (K : Kind C) (old : C) (n : ℕ) (event : Event) (
 
 pub record Laws {C : Type 0} (K : Kind C) : Type 0 where
   -- its unsettled child is that of its run
-  pub child_kid : (x : C) (k : ℕ) → is_child (K.child_of x) k ≡ true → is_child (K.kid_of x) k ≡ true
+  pub unsettled_is_last : (x : C) (k : ℕ) → is_child (K.unsettled_child_of x) k ≡ true → is_child (K.last_child_of x) k ≡ true
   -- it needs its slot until it is shut and has no unsettled child
-  pub needs_is : (x : C) → K.needs x ≡ (not (K.was_shut x) || is_some (K.child_of x))
+  pub needs_is : (x : C) → K.needs x ≡ (not (K.was_shut x) || is_some (K.unsettled_child_of x))
   -- it stands for lists of its own site's connections alone
   pub site_is : (site : Site) (x : C) (L : List Item) → K.stands site x L → K.site_of x ≡ site
   -- what is promised holds of each step of its list
   pub good : (site : Site) (x : C) (L : List Item) → K.stands site x L → AtEachStep (K.is_good site (K.number_of x)) L
-  pub unsettled : (site : Site) (x : C) (L : List Item) → K.stands site x L → filter (λ k. not (settled L k)) (children L (K.number_of x)) ≡ option_to_list (K.child_of x)
+  pub unsettled : (site : Site) (x : C) (L : List Item) → K.stands site x L → filter (λ k. not (settled L k)) (children L (K.number_of x)) ≡ option_to_list (K.unsettled_child_of x)
   -- the child of its run was started for it
-  pub kid_started : (site : Site) (x : C) (L : List Item) (k : ℕ) → K.stands site x L → is_child (K.kid_of x) k ≡ true → has (children L (K.number_of x)) k ≡ true
+  pub last_child_started : (site : Site) (x : C) (L : List Item) (k : ℕ) → K.stands site x L → is_child (K.last_child_of x) k ≡ true → has (children L (K.number_of x)) k ≡ true
   pub shut_is : (site : Site) (x : C) (L : List Item) → K.stands site x L → K.was_shut x ≡ shut L (K.number_of x)
   pub fits_is : (site : Site) (x : C) (L : List Item) (event : Event) → K.stands site x L → IsFor K x event → K.fits_conn x event ≡ fits_own site.limits.children L event
   -- an event of an earlier child, which is settled, changes nothing
   pub late : (site : Site) (x : C) (L : List Item) (limit n : ℕ) (stamp : Option ℕ) (k : ℕ) (event : Event) → K.stands site x L → Fitting limit (K.number_of x) n stamp L event
-      → names_child k (In event) ≡ true → is_child (K.kid_of x) k ≡ false → K.stands site x (L ++ In event ∷ [])
+      → names_child k (In event) ≡ true → is_child (K.last_child_of x) k ≡ false → K.stands site x (L ++ In event ∷ [])
   -- a connection without a slot goes on as it is
   pub idle : (site : Site) (c : ℕ) (L : List Item) (limit n : ℕ) (stamp : Option ℕ) (event : Event) → Gone K site c L → Fitting limit c n stamp L event → Gone K site c (L ++ In event ∷ [])
   -- one may be turned away, where another stands for some list

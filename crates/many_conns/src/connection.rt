@@ -35,12 +35,12 @@ pub trait Connection: Drop + Sized {
         ensures { result ≡ kind.fits_conn self.now ev.now };
 
     /// The child of its run, settled or not.
-    fn kid(&self) -> Option<u64>
-        ensures { result ≡ kind.kid_of self.now };
+    fn last_child(&self) -> Option<u64>
+        ensures { result ≡ kind.last_child_of self.now };
 
     /// Its child that is not settled.
-    fn child(&self) -> Option<u64>
-        ensures { result ≡ kind.child_of self.now };
+    fn unsettled_child(&self) -> Option<u64>
+        ensures { result ≡ kind.unsettled_child_of self.now };
 
     /// Whether it needs its slot.
     fn needs_slot(&self) -> bool
@@ -57,7 +57,7 @@ pub trait NewConnection<'s>: Connection {
         requires { IsServed site.now }
         ensures site { Self.kind.site_of result ≡ site.now }
         ensures number { Self.kind.number_of result ≡ c }
-        ensures kid { Self.kind.kid_of result ≡ None }
+        ensures last_child { Self.kind.last_child_of result ≡ None }
         ensures unshut { Self.kind.was_shut result ≡ false }
         ensures stands { (L : List Item) → AreTicks L → Self.kind.stands site.now result L };
 }

@@ -1,4 +1,3 @@
-mod SumLaws
 mod NextLaws
 mod ClientTallyLaws
 mod ChildTallyLaws

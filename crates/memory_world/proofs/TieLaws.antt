@@ -5,12 +5,14 @@ use Rattle.host_trace.specs.declared.items.Item.{Item}
 use Rattle.host_trace.specs.Kinds.{is_accepted, is_stop}
 use Rattle.host_trace.specs.Projections.{stopped}
 use Rattle.host_trace.proofs.ProjectionLaws.{accepted_count-push, stopped-push}
-use Rattle.memory_world.specs.ClientTallies.{client_with, client_at}
-use Rattle.memory_world.specs.ChildTallies.{child_with, child_at, Sets, waits, runs}
+use Rattle.trace_tallies.specs.ClientTallies.{client_with}
+use Rattle.memory_world.specs.ClientTallies.{client_at}
+use Rattle.trace_tallies.specs.ChildTallies.{child_with, waits, runs}
+use Rattle.memory_world.specs.ChildTallies.{child_at, Sets}
 use Rattle.memory_world.specs.Ties.{Ties}
 use Rattle.memory_world.specs.declared.tallies.Tallies.{Tallies}
-use Rattle.memory_world.proofs.ClientTallyLaws.{client_tally-push}
-use Rattle.memory_world.proofs.ChildTallyLaws.{child_tally-push}
+use Rattle.trace_tallies.proofs.ClientTallyLaws.{client_tally-push}
+use Rattle.trace_tallies.proofs.ChildTallyLaws.{child_tally-push}
 
 pub ties_go_on : (old now : Tallies) (T : List Item) (x : Item) → Ties old T →
     ((c : ℕ) → client_at now.clients c ≡ client_with c x (client_at old.clients c)) →

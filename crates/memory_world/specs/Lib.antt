@@ -4,7 +4,6 @@ pub mod MemoryWords
 pub mod StoreWords
 pub mod SinkWords
 pub mod WorldWords
-pub mod Sums
 pub mod ClientTallies
 pub mod ChildTallies
 pub mod Ties

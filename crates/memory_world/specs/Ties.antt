@@ -4,7 +4,8 @@ use Rattle.host_trace.specs.declared.items.Item.{Item}
 use Rattle.host_trace.specs.Projections.{accepted_count, stopped}
 use Rattle.memory_world.specs.declared.tallies.Tallies.{Tallies}
 use Rattle.memory_world.specs.ClientTallies.{ClientsTie}
-use Rattle.memory_world.specs.ChildTallies.{ChildrenTie, Sets, waits, runs}
+use Rattle.trace_tallies.specs.ChildTallies.{waits, runs}
+use Rattle.memory_world.specs.ChildTallies.{ChildrenTie, Sets}
 
 pub record Ties (t : Tallies) (T : List Item) : Type 0 where
   pub clients : ClientsTie t.clients T

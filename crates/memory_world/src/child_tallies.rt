@@ -7,10 +7,10 @@ ghost use Rattle.host_trace.specs.declared.items.Item.{Item};
 ghost use Rattle.host_trace.specs.Kinds.{names_child};
 ghost use Rattle.memory_world.specs.ChildTallies.{child_at, IsLeast};
 
-use super::child_tally::ChildTally;
-use host_trace::{Act, Event, Item};
+use host_trace::Item;
 use std::alloc::Global;
 use std::collections::{BTreeMap, BTreeSet};
+use trace_tallies::{ChildTally, child_asked, child_heard};
 
 /// The tallies by the children's numbers, and the numbers of those whose Start waits and of those that run.
 #[derive(Drop)]
@@ -27,37 +27,6 @@ fn child_of(item: &Item) -> Option<u64>
     match item {
         Item::In(event) => child_heard(event),
         Item::Out(act) => child_asked(act),
-    }
-}
-
-fn child_heard(event: &Event) -> Option<u64>
-    ensures { MatchOption result ((k : ℕ) → names_child k (Item.In event.now) ≡ false) (λ d. (k : ℕ) → names_child k (Item.In event.now) ≡ (k == d)) }
-{
-    match event {
-        Event::Started { k } => Some(*k),
-        Event::StartFailed { k } => Some(*k),
-        Event::StartFull { k, .. } => Some(*k),
-        Event::ChildBytes { k, .. } => Some(*k),
-        Event::ChildEof { k } => Some(*k),
-        Event::ChildBroken { k } => Some(*k),
-        Event::Took { k, .. } => Some(*k),
-        Event::InputGone { k } => Some(*k),
-        Event::Exited { k } => Some(*k),
-        _ => None,
-    }
-}
-
-fn child_asked(act: &Act) -> Option<u64>
-    ensures { MatchOption result ((k : ℕ) → names_child k (Item.Out act.now) ≡ false) (λ d. (k : ℕ) → names_child k (Item.Out act.now) ≡ (k == d)) }
-{
-    match act {
-        Act::Start { k, .. } => Some(*k),
-        Act::Feed { k, .. } => Some(*k),
-        Act::EndInput { k } => Some(*k),
-        Act::WantChild { k } => Some(*k),
-        Act::Kill { k } => Some(*k),
-        Act::Release { k } => Some(*k),
-        _ => None,
     }
 }
 
@@ -102,7 +71,8 @@ impl ChildTallies {
     ghost use Rattle.std.specs.Ordering.{nat_cmp};
     ghost use Rattle.std.specs.BTreeMap.{get};
     ghost use Rattle.std.specs.BTreeSet.{contains};
-    ghost use Rattle.memory_world.specs.ChildTallies.{child_at, child_with, no_child, waits, runs, Sets};
+    ghost use Rattle.trace_tallies.specs.ChildTallies.{child_with, no_child, waits, runs};
+    ghost use Rattle.memory_world.specs.ChildTallies.{child_at, Sets};
 
     /// Of a trace without items.
     pub fn new(alloc: Global) -> Self

@@ -4,11 +4,12 @@ ghost use Rattle.std.specs.Ordering.{nat_cmp};
 ghost use Rattle.std.specs.BTreeMap.{get};
 ghost use Rattle.host_trace.specs.declared.items.Item.{Item};
 ghost use Rattle.host_trace.specs.Kinds.{names};
-ghost use Rattle.memory_world.specs.ClientTallies.{client_at, client_with};
+ghost use Rattle.trace_tallies.specs.ClientTallies.{client_with};
+ghost use Rattle.memory_world.specs.ClientTallies.{client_at};
 
-use super::client_tally::ClientTally;
-use host_trace::{Act, Event, Item};
+use host_trace::Item;
 use std::collections::BTreeMap;
+use trace_tallies::{ClientTally, client_asked, client_heard};
 
 // The connection that an item names.
 fn client_of(item: &Item) -> Option<u64>
@@ -17,38 +18,6 @@ fn client_of(item: &Item) -> Option<u64>
     match item {
         Item::In(event) => client_heard(event),
         Item::Out(act) => client_asked(act),
-    }
-}
-
-fn client_heard(event: &Event) -> Option<u64>
-    ensures { MatchOption result ((c : ℕ) → names c (Item.In event.now) ≡ false) (λ d. (c : ℕ) → names c (Item.In event.now) ≡ (c == d)) }
-{
-    match event {
-        Event::ClientBytes { c, .. } => Some(*c),
-        Event::ClientEof { c } => Some(*c),
-        Event::ClientGone { c } => Some(*c),
-        Event::Wrote { c, .. } => Some(*c),
-        Event::WsText { c, .. } => Some(*c),
-        Event::WsBinary { c } => Some(*c),
-        Event::WsClosed { c } => Some(*c),
-        Event::WsBad { c } => Some(*c),
-        Event::NoRoom { c } => Some(*c),
-        _ => None,
-    }
-}
-
-fn client_asked(act: &Act) -> Option<u64>
-    ensures { MatchOption result ((c : ℕ) → names c (Item.Out act.now) ≡ false) (λ d. (c : ℕ) → names c (Item.Out act.now) ≡ (c == d)) }
-{
-    match act {
-        Act::WantClient { c } => Some(*c),
-        Act::Write { c, .. } => Some(*c),
-        Act::Shut { c, .. } => Some(*c),
-        Act::Start { c, .. } => Some(*c),
-        Act::Upgrade { c, .. } => Some(*c),
-        Act::Says { c, .. } => Some(*c),
-        Act::CloseWs { c, .. } => Some(*c),
-        _ => None,
     }
 }
 

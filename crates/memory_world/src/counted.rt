@@ -1,17 +1,16 @@
 // A trace, and beside it what is counted, so that what fits is told without going over the trace.
-ghost use Rattle.std.specs.Prelude.{◌≡◌, ◌+◌, ◌&&◌, true, nat_le};
+ghost use Rattle.std.specs.Prelude.{◌≡◌, ◌&&◌, true};
 ghost use Rattle.memory_world.specs.Ties.{Ties};
 
 use super::child_tallies::{child_in, first_of};
-use super::child_tally::ChildTally;
 use super::client_tallies::client_in;
-use super::client_tally::ClientTally;
-use super::fit::{fits, is_piece, stopped};
+use super::fit::{fits, stopped};
 use super::open::{open_start, running_child};
 use super::tallies::Tallies;
 use host_base::NoMemory;
 use host_trace::{Event, Item};
 use std::alloc::Global;
+use trace_tallies::{ChildTally, ClientTally, Rows, child_heard, client_heard, fits_rows};
 
 /// The items, and their tallies while `is_counted`. Where a number or the memory doesn't hold a tally, they are
 /// counted no more, and the items are asked instead.
@@ -24,11 +23,14 @@ pub struct Counted {
 }
 
 impl Counted {
-    ghost use Rattle.std.specs.Prelude.{◌≡◌, ◌≤◌, ◌<◌, ◌++◌, ◌∷◌, ◌&&◌, [], true, not, IfOk, vec_len, vec_capacity, if◌then◌else◌};
-    ghost use Rattle.host_trace.specs.Projections.{stopped, started, exited, input_ended};
-    ghost use Rattle.host_trace.specs.Fits.{fits, is_open, is_asked, is_asked_upgraded, may_leave, is_start_open, is_output_asked, may_take};
-    ghost use Rattle.memory_world.specs.ClientTallies.{client_tally};
-    ghost use Rattle.memory_world.specs.ChildTallies.{child_tally};
+    ghost use Rattle.std.specs.Prelude.{ℕ, ◌≡◌, ◌≤◌, ◌<◌, ◌++◌, ◌∷◌, [], true, Some, IfOk, vec_len, vec_capacity, if◌then◌else◌};
+    ghost use Rattle.host_trace.specs.declared.items.Item.{Item};
+    ghost use Rattle.host_trace.specs.Kinds.{names, names_child};
+    ghost use Rattle.host_trace.specs.Projections.{stopped};
+    ghost use Rattle.host_trace.specs.Fits.{fits};
+    ghost use Rattle.trace_tallies.specs.ClientTallies.{client_tally};
+    ghost use Rattle.trace_tallies.specs.ChildTallies.{child_tally};
+    ghost use Rattle.trace_tallies.specs.RowFits.{AllRowsOf};
     ghost use Rattle.memory_world.specs.NextEvent.{least, open_starts, running};
 
     /// A trace without items, with room for so many.
@@ -82,73 +84,38 @@ impl Counted {
         child_in(&self.tallies.children.rows, k)
     }
 
-    fn is_open(&self, c: u64) -> bool
+    // The tally of the connection that the event names.
+    fn client_row(&self, event: &Event) -> Option<ClientTally>
         requires { self.now.is_counted ≡ true }
-        ensures { result ≡ is_open self.now.items.items c }
+        ensures { (c : ℕ) → names c (Item.In event.now) ≡ true → result ≡ Some (client_tally self.now.items.items c) }
     {
-        c < self.tallies.accepted && !self.client(c).is_shut
+        match client_heard(event) {
+            Some(c) => Some(self.client(c)),
+            None => None,
+        }
     }
 
-    fn is_asked(&self, c: u64) -> bool
+    // .. and of the child.
+    fn child_row(&self, event: &Event) -> Option<ChildTally>
         requires { self.now.is_counted ≡ true }
-        ensures { result ≡ is_asked self.now.items.items c }
+        ensures { (k : ℕ) → names_child k (Item.In event.now) ≡ true → result ≡ Some (child_tally self.now.items.items k) }
     {
-        let tally = self.client(c);
-        !tally.is_shut && !tally.is_upgraded && tally.answers < tally.wants
+        match child_heard(event) {
+            Some(k) => Some(self.child(k)),
+            None => None,
+        }
     }
 
-    fn is_asked_upgraded(&self, c: u64) -> bool
+    fn rows(&self, event: &Event) -> Rows
         requires { self.now.is_counted ≡ true }
-        ensures { result ≡ is_asked_upgraded self.now.items.items c }
+        ensures { AllRowsOf self.now.items.items event.now result }
     {
-        let tally = self.client(c);
-        !tally.is_shut && tally.is_upgraded && tally.answers < tally.wants
-    }
-
-    fn may_leave(&self, c: u64, n: u64) -> bool
-        requires { self.now.is_counted ≡ true }
-        ensures { result ≡ may_leave self.now.items.items c n }
-    {
-        let tally = self.client(c);
-        !tally.is_shut && n >= 1 && has_room(tally.left, n, tally.sent)
-    }
-
-    fn is_start_open(&self, k: u64) -> bool
-        requires { self.now.is_counted ≡ true }
-        ensures { result ≡ is_start_open self.now.items.items k }
-    {
-        self.child(k).waits()
-    }
-
-    fn is_output_asked(&self, k: u64) -> bool
-        requires { self.now.is_counted ≡ true }
-        ensures { result ≡ is_output_asked self.now.items.items k }
-    {
-        let tally = self.child(k);
-        tally.is_started && !tally.is_output_over && tally.answers < tally.wants
-    }
-
-    fn may_take(&self, k: u64, n: u64) -> bool
-        requires { self.now.is_counted ≡ true }
-        ensures { result ≡ may_take self.now.items.items k n }
-    {
-        let tally = self.child(k);
-        tally.is_started && n >= 1 && has_room(tally.took, n, tally.fed)
-    }
-
-    fn has_input(&self, k: u64) -> bool
-        requires { self.now.is_counted ≡ true }
-        ensures { result ≡ (started self.now.items.items k && not (input_ended self.now.items.items k)) }
-    {
-        let tally = self.child(k);
-        tally.is_started && !tally.is_input_over
-    }
-
-    fn runs(&self, k: u64) -> bool
-        requires { self.now.is_counted ≡ true }
-        ensures { result ≡ (started self.now.items.items k && not (exited self.now.items.items k)) }
-    {
-        self.child(k).runs()
+        Rows {
+            client: self.client_row(event),
+            child: self.child_row(event),
+            accepted: self.tallies.accepted,
+            is_stopped: self.tallies.stopped,
+        }
     }
 
     fn least_waiting(&self) -> Option<u64>
@@ -170,26 +137,7 @@ impl Counted {
         requires { self.now.is_counted ≡ true }
         ensures { result ≡ fits limit self.now.items.items event.now }
     {
-        match event {
-            Event::Accepted { .. } | Event::Stop => !self.tallies.stopped,
-            Event::ClientBytes { c, bytes } => self.is_asked(*c) && is_piece(bytes),
-            Event::ClientEof { c } => self.is_asked(*c),
-            Event::ClientGone { c } | Event::NoRoom { c } => self.is_open(*c),
-            Event::Wrote { c, n } => self.may_leave(*c, *n),
-            Event::Started { k } | Event::StartFailed { k } => self.is_start_open(*k),
-            Event::StartFull { k, seen } => self.is_start_open(*k) && *seen == limit,
-            Event::ChildBytes { k, bytes } => self.is_output_asked(*k) && is_piece(bytes),
-            Event::ChildEof { k } => self.is_output_asked(*k),
-            Event::ChildBroken { k } => self.is_output_asked(*k),
-            Event::Took { k, n } => self.may_take(*k, *n),
-            Event::InputGone { k } => self.has_input(*k),
-            Event::Exited { k } => self.runs(*k),
-            Event::WsText { c, .. } => self.is_asked_upgraded(*c),
-            Event::WsBinary { c } => self.is_asked_upgraded(*c),
-            Event::WsClosed { c } => self.is_asked_upgraded(*c),
-            Event::WsBad { c } => self.is_asked_upgraded(*c),
-            Event::Tick { secs } => *secs < 253_402_300_800,
-        }
+        fits_rows(&self.rows(event), event, limit)
     }
 
     /// Whether the event may come next, where as many children as `limit` may run.
@@ -241,14 +189,4 @@ fn are_all(one: bool, other: bool, third: bool) -> bool
     ensures { result ≡ (one && other && third) }
 {
     one && other && third
-}
-
-// Whether `n` bytes more are at most those sent.
-fn has_room(left: u128, n: u64, sent: u128) -> bool
-    ensures { result ≡ nat_le (left + n) sent }
-{
-    match left.checked_add(n as u128) {
-        Some(more) => more <= sent,
-        None => false,
-    }
 }

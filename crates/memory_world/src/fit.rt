@@ -4,7 +4,7 @@ ghost use Rattle.std.specs.List.{list_any};
 ghost use Rattle.host_trace.specs.Kinds.{is_accepted, is_upgrade};
 ghost use Rattle.host_trace.specs.First.{since};
 ghost use Rattle.host_trace.specs.Projections.{stopped, shut, upgraded, is_known, client_wanted, child_wanted, start_stands, start_answered, started, exited, input_ended, output_ended, sent_of_phase, left_of_phase, child_in, took_sum};
-ghost use Rattle.host_trace.specs.Fits.{fits, is_piece, is_open, is_asked, is_asked_upgraded, may_leave, is_start_open, is_output_asked, may_take};
+ghost use Rattle.host_trace.specs.Fits.{fits, is_open, is_asked, is_asked_upgraded, may_leave, is_start_open, is_output_asked, may_take};
 
 use super::kinds::{
     is_accepted, is_child_answer, is_client_answer, is_exited, is_input_end, is_output_end,
@@ -12,8 +12,8 @@ use super::kinds::{
     is_want_client,
 };
 use super::sums::{fed_len, said_len, took_sum, written_len, wrote_sum};
-use host_base::Bytes;
 use host_trace::{Event, Item};
+use trace_tallies::is_piece;
 
 /// One where it is true.
 pub fn one_if(test: bool) -> u64
@@ -165,13 +165,6 @@ fn is_output_asked(items: &[Item], k: u64) -> bool
     ensures { result ≡ is_output_asked items.now k }
 {
     started(items, k) && !output_ended(items, k) && child_wanted(items, k)
-}
-
-/// Whether it is a piece that an event may carry.
-pub fn is_piece(bytes: &Bytes) -> bool
-    ensures { result ≡ is_piece bytes.now }
-{
-    !bytes.is_empty() && bytes.len() <= 65_536
 }
 
 // Whether n bytes more can have left of those written or said in this phase.

@@ -2,9 +2,7 @@
 #![tactic(auto)]
 
 mod child_tallies;
-mod child_tally;
 mod client_tallies;
-mod client_tally;
 mod counted;
 mod events;
 mod find;

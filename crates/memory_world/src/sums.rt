@@ -1,11 +1,12 @@
 // How many bytes the items of a trace carry.
 ghost use Rattle.std.specs.Prelude.{◌≡◌, ◌≤◌, ◌-◌, ◌*◌, ◌^◌, ℕ, min, length, sum_by};
 ghost use Rattle.host_trace.specs.Kinds.{count_wrote, count_took, bytes_written, input_fed, texts_said};
-ghost use Rattle.memory_world.specs.Sums.{texts_len};
+ghost use Rattle.trace_tallies.specs.Sums.{texts_len};
 ghost use Rattle.host_trace.specs.Projections.{client_out, child_in, wrote_sum, took_sum, said_len};
 
 use host_base::Text;
 use host_trace::{Act, Event, Item};
+use trace_tallies::text_len;
 
 /// How many bytes left for the client.
 pub fn wrote_by(item: &Item, c: u64) -> u64
@@ -99,17 +100,6 @@ pub fn texts_by(item: &Item, c: u64) -> &[Text]
         Item::Out(Act::Says { c: d, texts }) if c == *d => texts.as_slice(),
         _ => &[],
     }
-}
-
-/// How many bytes the texts have.
-pub fn text_len(texts: &[Text]) -> u128
-    ensures { result ≡ sum_by length texts.now }
-{
-    let mut sum = 0u128;
-    for text in texts {
-        sum += text.len() as u128;
-    }
-    sum
 }
 
 fn say_sum(items: &[Item], c: u64) -> u128

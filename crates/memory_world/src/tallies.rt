@@ -4,12 +4,12 @@ ghost use Rattle.host_trace.specs.Kinds.{is_stop};
 
 use super::child_tallies::ChildTallies;
 use super::client_tallies::note_client;
-use super::client_tally::ClientTally;
 use super::fit::one_if;
 use super::kinds::{is_accepted, is_stop};
 use host_trace::Item;
 use std::alloc::Global;
 use std::collections::BTreeMap;
+use trace_tallies::ClientTally;
 
 /// The tallies of the connections and of the children, how many connections were accepted, and whether Stop
 /// was heard.

@@ -29,3 +29,9 @@ fault_reply_of cause = record {
   fields = upgrade_fields cause ++ named_field (codes "Content-Type") (codes "text/plain") ∷ [];
   body = text_of cause ++ text_number cause ++ codes "\n";
 }
+
+-- the answer for a cause as the output of a script (RFC 3875 6), for a client that is itself a gateway
+abbrev pub fault_text : Cause → List ℕ
+fault_text cause =
+    codes "Status: " ++ decimal (status_of cause) ++ codes " " ++ phrase_of (status_of cause)
+    ++ codes "\r\nContent-Type: text/plain\r\n\r\n" ++ text_of cause ++ text_number cause ++ codes "\n"

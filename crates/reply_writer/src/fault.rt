@@ -1,7 +1,7 @@
 // The host's own replies.
 ghost use Rattle.std.specs.Prelude.{◌≡◌, [], ◌∷◌, ◌++◌, codes, IfOk, OnOk};
 ghost use Rattle.host_base.specs.CauseText.{text_of};
-ghost use Rattle.reply_writer.specs.FaultReply.{fault_reply_of, text_number, upgrade_fields};
+ghost use Rattle.reply_writer.specs.FaultReply.{fault_reply_of, fault_text, text_number, upgrade_fields};
 ghost use Rattle.reply_writer.specs.Spelling.{named_field};
 
 use super::phrases::phrase;
@@ -24,6 +24,21 @@ pub fn fault_reply(alloc: Global, cause: Cause) -> Result<Reply, NoMemory>
         fields: fault_fields(alloc, cause)?,
         body: fault_body(alloc, cause)?,
     })
+}
+
+/// The answer for a cause in the form of a script's output (RFC 3875 6.3), as a gateway is given it: its status,
+/// its type, and its text as a line.
+pub fn fault_text(alloc: Global, cause: Cause) -> Result<Bytes, NoMemory>
+    ensures { IfOk result (λ text. text ≡ fault_text cause) }
+{
+    let reply = fault_reply(alloc, cause)?;
+    let mut text = Bytes::from_slice(alloc, b"Status: ")?;
+    push_number(&mut text, u64::from(reply.status))?;
+    text.extend_from_slice(b" ")?;
+    text.extend_from_slice(reply.phrase.as_slice())?;
+    text.extend_from_slice(b"\r\nContent-Type: text/plain\r\n\r\n")?;
+    text.extend_from_slice(reply.body.as_slice())?;
+    Ok(text)
 }
 
 fn fault_fields(alloc: Global, cause: Cause) -> Result<Fields, NoMemory>

@@ -12,7 +12,7 @@ mod whole_laws;
 
 pub use chunk::{END_MARK, chunk_text};
 pub use date::{DATES_END, DateText, date_text};
-pub use fault::fault_reply;
+pub use fault::{fault_reply, fault_text};
 pub use laws::{
     dates_are_plain, dates_read_back, dates_stand, ends_read_back, faults_are_plain,
     heads_read_back, heads_stand_alone, old_versions_have_no_coding, phrases_are_plain,

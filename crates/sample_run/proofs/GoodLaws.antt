@@ -5,8 +5,8 @@ use Rattle.host_base.specs.declared.site.Site.{Site}
 use Rattle.host_trace.specs.declared.items.Item.{Item}
 use Rattle.host_trace.specs.Projections.{accepted_count}
 use Rattle.trace_model.specs.Good.{Good}
-use Rattle.all_conns.specs.Stands.{Good as KeepsPromise}
-use Rattle.host_conns.specs.Host.{host_kind}
+use Rattle.host_core.specs.Stands.{Good as KeepsPromise}
+use Rattle.conn_core.specs.Kind.{conn_kind}
 
-pub good_by_model : (site : Site) (T : List Item) → KeepsPromise host_kind site T → Good site T
+pub good_by_model : (site : Site) (T : List Item) → KeepsPromise conn_kind site T → Good site T
 good_by_model site T g = record { begun = g.begun; between = g.between; connections = λ c known. g.parts c (ltb-true c (accepted_count T) known) }

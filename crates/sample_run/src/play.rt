@@ -9,8 +9,8 @@ ghost use Rattle.sample_run.specs.Played.{IsPlayed};
 ghost use Rattle.sample_run.specs.Takes.{Takes};
 
 use crate::played::{Plan, Played};
+use conn_core::Conn;
 use host_base::Site;
-use host_conns::HostConn;
 use host_loop::{LoopEnd, serve_one};
 use memory_world::MemoryOutside;
 use std::alloc::Global;
@@ -38,7 +38,7 @@ fn play_plan<K: Plan>(
         inside: outside,
         plan: PhantomData,
     };
-    let end = serve_one::<HostConn<'_>, Played<K>>(alloc, site, &mut played, TURNS);
+    let end = serve_one::<Conn<'_>, Played<K>>(alloc, site, &mut played, TURNS);
     let Played { inside, plan: _ } = played;
     (inside, end)
 }

@@ -18,11 +18,11 @@ pub record Kept (old new : TalkConn) : Type 0 where
   pub site : site_of new ≡ site_of old
   pub number : number_of new ≡ number_of old
   pub kind : (run_of new).kind ≡ (run_of old).kind
-  pub kid : (run_of new).number ≡ (run_of old).number
+  pub last_child : (run_of new).number ≡ (run_of old).number
   pub conn : (talk_of new).conn ≡ (talk_of old).conn
 
 both : {old mid new : TalkConn} → Kept old mid → Kept mid new → Kept old new
-both a b = record { site = b.site ∙ a.site; number = b.number ∙ a.number; kind = b.kind ∙ a.kind; kid = b.kid ∙ a.kid; conn = b.conn ∙ a.conn }
+both a b = record { site = b.site ∙ a.site; number = b.number ∙ a.number; kind = b.kind ∙ a.kind; last_child = b.last_child ∙ a.last_child; conn = b.conn ∙ a.conn }
 
 heard_number : (t : Talk) (v : Run) (ev : Event) → (heard t v ev).conn ≡ t.conn
 heard_number t v ev = go t.over
@@ -32,32 +32,32 @@ heard_number t v ev = go t.over
     go false = refl
 
 heard_kept : (b : Bool) (ev : Event) (conn : TalkConn) → Kept conn (heard_conn b ev conn)
-heard_kept true ev conn = record { site = refl; number = refl; kind = refl; kid = refl; conn = heard_number conn.talk conn.run ev }
-heard_kept false ev conn = record { site = refl; number = refl; kind = refl; kid = refl; conn = refl }
+heard_kept true ev conn = record { site = refl; number = refl; kind = refl; last_child = refl; conn = heard_number conn.talk conn.run ev }
+heard_kept false ev conn = record { site = refl; number = refl; kind = refl; last_child = refl; conn = refl }
 
 said_kept : (b : Bool) (conn : TalkConn) → Kept conn (said_conn b conn)
-said_kept true conn = record { site = refl; number = refl; kind = refl; kid = refl; conn = refl }
-said_kept false conn = record { site = refl; number = refl; kind = refl; kid = refl; conn = refl }
+said_kept true conn = record { site = refl; number = refl; kind = refl; last_child = refl; conn = refl }
+said_kept false conn = record { site = refl; number = refl; kind = refl; last_child = refl; conn = refl }
 
 acted_kept : (b : Bool) (conn : TalkConn) → Kept conn (acted_conn b conn)
 unfolding acted
-acted_kept true conn = record { site = refl; number = refl; kind = refl; kid = refl; conn = refl }
-acted_kept false conn = record { site = refl; number = refl; kind = refl; kid = refl; conn = refl }
+acted_kept true conn = record { site = refl; number = refl; kind = refl; last_child = refl; conn = refl }
+acted_kept false conn = record { site = refl; number = refl; kind = refl; last_child = refl; conn = refl }
 
 shut_kept : (why : Option Why) (conn : TalkConn) → Kept conn (shut_conn why conn)
-shut_kept None conn = record { site = refl; number = refl; kind = refl; kid = refl; conn = refl }
-shut_kept (Some why) conn = record { site = refl; number = refl; kind = refl; kid = refl; conn = refl }
+shut_kept None conn = record { site = refl; number = refl; kind = refl; last_child = refl; conn = refl }
+shut_kept (Some why) conn = record { site = refl; number = refl; kind = refl; last_child = refl; conn = refl }
 
 asked_kept : (b : Bool) (conn : TalkConn) → Kept conn (asked_conn b conn)
-asked_kept true conn = record { site = refl; number = refl; kind = refl; kid = refl; conn = refl }
-asked_kept false conn = record { site = refl; number = refl; kind = refl; kid = refl; conn = refl }
+asked_kept true conn = record { site = refl; number = refl; kind = refl; last_child = refl; conn = refl }
+asked_kept false conn = record { site = refl; number = refl; kind = refl; last_child = refl; conn = refl }
 
 kept_as : (old : TalkConn) {a b : TalkConn} → b ≡ a → Kept old a → Kept old b
 kept_as old is k = record {
   site = ap site_of is ∙ k.site;
   number = ap number_of is ∙ k.number;
   kind = ap (λ (x : TalkConn). (run_of x).kind) is ∙ k.kind;
-  kid = ap (λ (x : TalkConn). (run_of x).number) is ∙ k.kid;
+  last_child = ap (λ (x : TalkConn). (run_of x).number) is ∙ k.last_child;
   conn = ap (λ (x : TalkConn). (talk_of x).conn) is ∙ k.conn;
 }
 

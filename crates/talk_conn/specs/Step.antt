@@ -27,9 +27,9 @@ pub record Steps (old : TalkConn) (ev : Event) (acts : List Act) (new : TalkConn
   pub last : TalkConn
   pub last_is : last ≡ shut_conn (why_of third) third
   pub is : new ≡ asked_conn (is_ask_due last) last
-  pub acts_are : acts ≡ (acts_said said first ++ acts_acted fed second) ++ (acts_shut third.marks.c (why_of third) ++ acts_asked last.marks.c (is_ask_due last))
-  pub memory : heard ≡ false → (takes_memory old.talk ev || is_no_room old.marks.c (In ev)) ≡ true
-  pub room : heard ≡ true → is_no_room old.marks.c (In ev) ≡ false
+  pub acts_are : acts ≡ (acts_said said first ++ acts_acted fed second) ++ (acts_shut third.flags.c (why_of third) ++ acts_asked last.flags.c (is_ask_due last))
+  pub memory : heard ≡ false → (takes_memory old.talk ev || is_no_room old.flags.c (In ev)) ≡ true
+  pub room : heard ≡ true → is_no_room old.flags.c (In ev) ≡ false
   pub said_memory : said ≡ false → is_filled first.talk.texts ≡ true
   pub fed_memory : fed ≡ false → is_feed_due second.run ≡ true
 

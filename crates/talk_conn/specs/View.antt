@@ -3,18 +3,18 @@ use Rattle.std.specs.Prelude.{ℕ, ◌≡◌, Bool, true}
 use Rattle.host_base.specs.declared.site.Site.{Site}
 use Rattle.host_trace.specs.Decider.{is_websocket}
 use Rattle.child_core.specs.View.{View as Run}
-use Rattle.conn_marks.specs.View.{View as Marks}
+use Rattle.conn_flags.specs.View.{View as Flags}
 use Rattle.talk_core.specs.View.{View as Talk}
 use Rattle.talk_conn.specs.declared.conn.TalkConn.{TalkConn}
 
 abbrev pub site_of : TalkConn → Site
 site_of conn = conn.site.now
 
-abbrev pub marks_of : TalkConn → Marks
-marks_of conn = conn.marks
+abbrev pub flags_of : TalkConn → Flags
+flags_of conn = conn.flags
 
 abbrev pub number_of : TalkConn → ℕ
-number_of conn = (marks_of conn).c
+number_of conn = (flags_of conn).c
 
 abbrev pub talk_of : TalkConn → Talk
 talk_of conn = conn.talk
@@ -22,7 +22,7 @@ talk_of conn = conn.talk
 abbrev pub run_of : TalkConn → Run
 run_of conn = conn.run
 
--- memory was wanting
+-- memory ran out
 abbrev pub was_lost : TalkConn → Bool
 was_lost conn = conn.lost
 

@@ -21,7 +21,7 @@ impl<'s> TalkConn<'s> {
     ghost use Rattle.trace_child.specs.Words.{is_filled};
     ghost use Rattle.child_core.specs.Due.{is_feed_due};
     ghost use Rattle.talk_conn.specs.Parts.{acted_conn, acts_acted, acts_asked, acts_said, acts_shut, asked_conn, is_ask_due, may_want, said_conn, shut_conn, why_of};
-    // Gives the messages and the close frame that are due; false where memory was wanting for the messages.
+    // Gives the messages and the close frame that are due; false where memory ran out for the messages.
     pub(crate) fn say<O: Outside>(&mut self, out: &mut O) -> bool
         ensures value { self.new ≡ said_conn result self.old }
         ensures told { Adds (O.trace out.old) (acts_said result self.old) (O.trace out.new) }
@@ -32,14 +32,14 @@ impl<'s> TalkConn<'s> {
             self.give_up();
             return false;
         };
-        if 0 < len && !self.marks.can_count(len) {
+        if 0 < len && !self.flags.can_count(len) {
             self.give_up();
             return false;
         }
         match self.talk.act(out) {
             Ok(_) => {
                 if 0 < len {
-                    self.marks.say(len);
+                    self.flags.say(len);
                 }
                 true
             }
@@ -54,10 +54,10 @@ impl<'s> TalkConn<'s> {
     fn may_want(&self) -> bool
         ensures { result ≡ may_want self.now }
     {
-        self.marks.has_room() || self.talk.is_over()
+        self.flags.has_room() || self.talk.is_over()
     }
 
-    // Gives what is due for the child; false where memory was wanting for a text that is to be fed.
+    // Gives what is due for the child; false where memory ran out for a text that is to be fed.
     pub(crate) fn act<O: Outside>(&mut self, out: &mut O) -> bool
         ensures value { self.new ≡ acted_conn result self.old }
         ensures told { Adds (O.trace out.old) (acts_acted result self.old) (O.trace out.new) }
@@ -77,13 +77,13 @@ impl<'s> TalkConn<'s> {
     fn why(&self) -> Option<Why>
         ensures { result ≡ why_of self.now }
     {
-        if !self.marks.is_live() {
+        if !self.flags.is_live() {
             None
         } else if self.lost {
             Some(Why::NoMemory)
-        } else if self.marks.is_stopped() {
+        } else if self.flags.is_stopped() {
             Some(Why::Stopped)
-        } else if self.marks.is_gone() {
+        } else if self.flags.is_gone() {
             Some(Why::Gone)
         } else if self.talk.is_over() {
             Some(Why::Done)
@@ -95,13 +95,13 @@ impl<'s> TalkConn<'s> {
     // Shuts the connection where that is due.
     pub(crate) fn close<O: Outside>(&mut self, out: &mut O)
         ensures value { self.new ≡ shut_conn (why_of self.old) self.old }
-        ensures told { Adds (O.trace out.old) (acts_shut self.old.marks.c (why_of self.old)) (O.trace out.new) }
+        ensures told { Adds (O.trace out.old) (acts_shut self.old.flags.c (why_of self.old)) (O.trace out.new) }
         ensures limit { O.limit out.new ≡ O.limit out.old }
     {
         if let Some(why) = self.why() {
-            let number = self.marks.c();
+            let number = self.flags.c();
             give_plain(&Act::Shut { c: number, why }, out);
-            self.marks.shut();
+            self.flags.shut();
             self.talk.shut();
         }
     }
@@ -109,22 +109,22 @@ impl<'s> TalkConn<'s> {
     fn is_ask_due(&self) -> bool
         ensures { result ≡ is_ask_due self.now }
     {
-        self.marks.is_live()
-            && self.marks.has_room()
+        self.flags.is_live()
+            && self.flags.has_room()
             && self.run.wants_text()
-            && !self.marks.is_asked()
+            && !self.flags.is_asked()
     }
 
     // Asks the client for a text where one may be heard.
     pub(crate) fn want<O: Outside>(&mut self, out: &mut O)
         ensures value { self.new ≡ asked_conn (is_ask_due self.old) self.old }
-        ensures told { Adds (O.trace out.old) (acts_asked self.old.marks.c (is_ask_due self.old)) (O.trace out.new) }
+        ensures told { Adds (O.trace out.old) (acts_asked self.old.flags.c (is_ask_due self.old)) (O.trace out.new) }
         ensures limit { O.limit out.new ≡ O.limit out.old }
     {
         if self.is_ask_due() {
-            let number = self.marks.c();
+            let number = self.flags.c();
             give_plain(&Act::WantClient { c: number }, out);
-            self.marks.ask();
+            self.flags.ask();
         }
     }
 }

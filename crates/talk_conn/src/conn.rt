@@ -1,6 +1,6 @@
 // The state of a connection that speaks WebSocket, and a step.
 use child_core::{Ending, Run};
-use conn_marks::Marks;
+use conn_flags::Flags;
 use host_base::Site;
 use host_trace::{Event, Outside};
 use talk_core::Talk;
@@ -10,8 +10,8 @@ use talk_core::Talk;
 pub struct TalkConn<'s> {
     pub(crate) site: &'s Site,
     /// What was heard and done of it beside its talk.
-    pub(crate) marks: Marks,
-    /// Memory was wanting.
+    pub(crate) flags: Flags,
+    /// Memory ran out.
     pub(crate) lost: bool,
     pub(crate) talk: Talk,
     /// The program.
@@ -26,19 +26,19 @@ impl<'s> TalkConn<'s> {
     ghost use Rattle.talk_core.specs.Hearing.{takes_memory};
     ghost use Rattle.talk_conn.specs.Parts.{given_up_conn, heard_conn};
     ghost use Rattle.talk_conn.specs.Step.{Stepped};
-    ghost use Rattle.talk_conn.specs.Slot.{child_of, fits_talk, is_held, kid_of};
-    ghost use Rattle.talk_conn.specs.View.{marks_of, run_of, site_of, talk_of, was_lost};
+    ghost use Rattle.talk_conn.specs.Slot.{unsettled_child_of, fits_talk, is_held, last_child_of};
+    ghost use Rattle.talk_conn.specs.View.{flags_of, run_of, site_of, talk_of, was_lost};
     /// A connection that was upgraded, with the talk that began with the Start of this run. It takes no memory.
-    pub fn new(site: &'s Site, marks: Marks, talk: Talk, run: Run) -> Self
+    pub fn new(site: &'s Site, flags: Flags, talk: Talk, run: Run) -> Self
         ensures site { site_of result ≡ site.now }
-        ensures marks { marks_of result ≡ marks }
+        ensures flags { flags_of result ≡ flags }
         ensures talk { talk_of result ≡ talk }
         ensures run { run_of result ≡ run }
         ensures found { was_lost result ≡ false }
     {
         TalkConn {
             site,
-            marks,
+            flags,
             lost: false,
             talk,
             run,
@@ -62,19 +62,19 @@ impl<'s> TalkConn<'s> {
     pub fn fits(&self, ev: &Event) -> bool
         ensures { result ≡ fits_talk self.now ev.now }
     {
-        self.marks.fits(ev) && self.run.fits(ev)
+        self.flags.fits(ev) && self.run.fits(ev)
     }
 
     /// Its child, settled or not.
-    pub fn kid(&self) -> u64
-        ensures { result ≡ kid_of self.now }
+    pub fn last_child(&self) -> u64
+        ensures { result ≡ last_child_of self.now }
     {
         self.run.number()
     }
 
     /// The child that is not settled.
-    pub fn child(&self) -> Option<u64>
-        ensures { result ≡ child_of self.now }
+    pub fn unsettled_child(&self) -> Option<u64>
+        ensures { result ≡ unsettled_child_of self.now }
     {
         if self.run.settled() {
             None
@@ -87,18 +87,18 @@ impl<'s> TalkConn<'s> {
     pub fn is_held(&self) -> bool
         ensures { result ≡ is_held self.now }
     {
-        !self.marks.is_shut() || !self.run.settled()
+        !self.flags.is_shut() || !self.run.settled()
     }
 
-    // Takes an event into account, and gives no act; false where memory was wanting for it.
+    // Takes an event into account, and gives no act; false where memory ran out for it.
     fn hear(&mut self, ev: &Event) -> bool
         requires talks { is_websocket self.old.run.kind ≡ true }
         ensures value { self.new ≡ heard_conn result ev.now self.old }
-        ensures memory { result ≡ false → (takes_memory self.old.talk ev.now || is_no_room self.old.marks.c (In ev.now)) ≡ true }
-        ensures room { result ≡ true → is_no_room self.old.marks.c (In ev.now) ≡ false }
+        ensures memory { result ≡ false → (takes_memory self.old.talk ev.now || is_no_room self.old.flags.c (In ev.now)) ≡ true }
+        ensures room { result ≡ true → is_no_room self.old.flags.c (In ev.now) ≡ false }
     {
         let unheard = self.is_unheard(ev);
-        self.marks.hear(ev);
+        self.flags.hear(ev);
         let heard = self.talk.hear(ev, &mut self.run).is_ok();
         if heard && !unheard {
             return true;
@@ -109,15 +109,15 @@ impl<'s> TalkConn<'s> {
 
     // No memory was found to hear it.
     fn is_unheard(&self, ev: &Event) -> bool
-        ensures { result ≡ is_no_room self.now.marks.c (In ev.now) }
+        ensures { result ≡ is_no_room self.now.flags.c (In ev.now) }
     {
         match ev {
-            Event::NoRoom { c } => self.marks.c() == *c,
+            Event::NoRoom { c } => self.flags.c() == *c,
             _ => false,
         }
     }
 
-    // Memory was wanting: the talk is over, and its child given up.
+    // Memory ran out: the talk is over, and its child given up.
     pub(crate) fn give_up(&mut self)
         ensures { self.new ≡ given_up_conn self.old }
     {

@@ -21,7 +21,7 @@ use Rattle.trace_model.specs.Talk.{input_due, piece_fed, pieces_fed, close_code,
 use Rattle.child_core.specs.declared.ending.Outcome.{Outcome}
 use Rattle.child_core.specs.View.{View as RunView, plain, noted, verdict, without, cleared, is_output, is_other}
 use Rattle.child_core.specs.Due.{Due as RunDue, is_feed_due, is_input_due, is_kill_due, is_release_due, wants_input_end, wants_kill, wants_release, is_fed_whole, is_left_alone, has_lingered}
-use Rattle.child_core.specs.Knows.{Knows as RunKnows, Offers}
+use Rattle.child_core.specs.Knows.{KnowsRun, Offers}
 use Rattle.child_core.proofs.ActLaws.{and_false, or_none, due_filled}
 use Rattle.child_core.proofs.DecideLaws.{Counts, row_is}
 use Rattle.child_core.proofs.KnowsLaws.{Knows-noted}
@@ -29,7 +29,7 @@ use Rattle.child_core.proofs.MemoryLaws.{due-may}
 use Rattle.child_core.proofs.TellLaws.{noted-other, other-admits, still-offers}
 use Rattle.talk_core.specs.View.{View, given_up}
 use Rattle.talk_core.specs.Setting.{setting}
-use Rattle.talk_core.specs.Knows.{Knows, StandsFor, run_of, waiting, codes}
+use Rattle.talk_core.specs.Knows.{KnowsTalk, StandsFor, run_of, waiting, codes}
 use Rattle.talk_core.specs.Laws.{MayShut, ActsAreKnown, TextsAreHeard}
 use Rattle.talk_core.proofs.ItemLaws.{or_false, texts_out, taken_quiet, pieces_fed-push, codes_sent-push, end_stays, is_end, code_stays, code_none, code_new, code_open}
 use Rattle.talk_core.proofs.HearLaws.{cleared_nil, unfed_none, shut_since-push, out_since-push}
@@ -76,10 +76,10 @@ module _ (early : Bool) (c : ℕ) (limits : Limits) (t : View) (v : RunView) (L 
   ends_by act = ap (λ b. b || false) (row_is (setting c v.number limits) v plain L (Out act) (act_counts act) s.run.begun) ∙ or_false _
 
   -- what the run knows of an act that doesn't name its child, and of one that is due for it
-  run_other : (act : Act) → names_child v.number (Out act) ≡ false → RunKnows early (setting c v.number limits) (noted c v plain (Out act)) (L ++ Out act ∷ [])
+  run_other : (act : Act) → names_child v.number (Out act) ≡ false → KnowsRun early (setting c v.number limits) (noted c v plain (Out act)) (L ++ Out act ∷ [])
   run_other act unnamed = Knows-noted early (setting c v.number limits) v L plain (Out act) s.run (other-admits early (setting c v.number limits) v L plain (Out act) unnamed (act_offers act))
 
-  run_due : (may : Bool) (act : Act) → RunDue may v act → RunKnows early (setting c v.number limits) (noted c v plain (Out act)) (L ++ Out act ∷ [])
+  run_due : (may : Bool) (act : Act) → RunDue may v act → KnowsRun early (setting c v.number limits) (noted c v plain (Out act)) (L ++ Out act ∷ [])
   run_due may act due =
       Knows-noted early (setting c v.number limits) v L plain (Out act) s.run
       (due-may early (setting c v.number limits) (texts_are_heard c v.number limits) may v L act s.run due).admits
@@ -117,7 +117,7 @@ module _ (early : Bool) (c : ℕ) (limits : Limits) (t : View) (v : RunView) (L 
         ∙ (ap (λ b. is_some v.outcome || (b || v.hung_up) || (noted c v plain (Out act)).killed) (and_false (is_websocket v.kind))
         ∙ ap (λ b. is_some v.outcome || v.hung_up || (b || v.killed)) alive)
 
-    framed : Knows c limits (record t { texts = ts; code = cd }) (noted c v plain (Out act)) (L ++ Out act ∷ [])
+    framed : KnowsTalk c limits (record t { texts = ts; code = cd }) (noted c v plain (Out act)) (L ++ Out act ∷ [])
     framed = record {
       conn = s.talk.conn;
       child = s.talk.child;
@@ -315,6 +315,4 @@ acts_are_known early may c limits t v L (EndInput d) s m = past_known early c li
 acts_are_known early may c limits t v L (Kill d) s m = past_known early c limits t v L s may (Kill d) (kill_over early c limits t v L s may m.1) m refl refl refl refl refl refl
 acts_are_known early may c limits t v L (Release d) s m = past_known early c limits t v L s may (Release d) (release_over early c limits t v L s may m.1) m refl refl refl refl refl refl
 acts_are_known early may c limits t v L (WantChild d) s m = asks_child early c limits t v L s may d m
-acts_are_known early may c limits t v L (Write d bytes) s m = absurd m
-acts_are_known early may c limits t v L (Start k d j hop launch) s m = absurd m
-acts_are_known early may c limits t v L (Upgrade d rest) s m = absurd m
+acts_are_known early may c limits t v L _ s m = absurd m

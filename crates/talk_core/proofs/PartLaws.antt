@@ -1,4 +1,4 @@
--- Where memory was wanting; and the end of a step.
+-- Where memory ran out; and the end of a step.
 use Rattle.std.proofs.Common.{◌≡◌, ℕ, List, [], ◌∷◌, ◌++◌, Bool, true, false, refl, sym, ◌∙◌, ap, Some, append-nil, append_assoc, map, subst, inl, inr}
 use Rattle.std.specs.Prelude.{if◌then◌else◌, is_some, option_and_then, filter, bytes_eq, nat_eq}
 use Rattle.std.specs.List.{list_any, starts_with}

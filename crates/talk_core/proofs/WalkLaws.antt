@@ -66,13 +66,7 @@ run_act early may c limits t v L (EndInput k) due s = acts_are_known early may c
 run_act early may c limits t v L (Kill k) due s = acts_are_known early may c limits t v L (Kill k) s due
 run_act early may c limits t v L (Release k) due s = acts_are_known early may c limits t v L (Release k) s due
 run_act early may c limits t v L (WantChild k) due s = acts_are_known early may c limits t v L (WantChild k) s due
-run_act early may c limits t v L (Says d texts) due s = absurd due
-run_act early may c limits t v L (CloseWs d code) due s = absurd due
-run_act early may c limits t v L (Shut d why) due s = absurd due
-run_act early may c limits t v L (WantClient d) due s = absurd due
-run_act early may c limits t v L (Write d bytes) due s = absurd due
-run_act early may c limits t v L (Start k d j hop launch) due s = absurd due
-run_act early may c limits t v L (Upgrade d rest) due s = absurd due
+run_act early may c limits t v L _ due s = absurd due
 
 run_path : (early may : Bool) (c : ℕ) (limits : Limits) (t : View) (v : RunView) (L : List Item) (acts : List Act) → Path may v acts → StandsFor early c limits t v L
     → StandsFor early c limits t (after v acts) (L ++ map Out acts)

@@ -13,7 +13,7 @@ use Rattle.trace_model.specs.Talk.{texts_due, input_due, pieces_fed, code_due, c
 use Rattle.child_core.specs.View.{View as RunView}
 use Rattle.child_core.specs.Due.{is_feed_due}
 use Rattle.child_core.specs.Setting.{run_in}
-use Rattle.child_core.specs.Knows.{Knows as RunKnows}
+use Rattle.child_core.specs.Knows.{KnowsRun}
 use Rattle.talk_core.specs.View.{View}
 use Rattle.talk_core.specs.Setting.{setting}
 
@@ -31,7 +31,7 @@ codes None = []
 codes (Some code) = code ∷ []
 
 -- Memory was found so far. With what is still to be said, fed and sent, all stands that the talk names.
-pub record Knows (c : ℕ) (limits : Limits) (t : View) (v : RunView) (L : List Item) : Type 0 where
+pub record KnowsTalk (c : ℕ) (limits : Limits) (t : View) (v : RunView) (L : List Item) : Type 0 where
   pub conn : t.conn ≡ c
   pub child : t.child ≡ v.number
   pub limit : t.limit ≡ limits.ws_text
@@ -53,15 +53,15 @@ pub record Knows (c : ℕ) (limits : Limits) (t : View) (v : RunView) (L : List 
 
 -- the talk and its run, together
 pub record StandsFor (early : Bool) (c : ℕ) (limits : Limits) (t : View) (v : RunView) (L : List Item) : Type 0 where
-  pub run : RunKnows early (setting c v.number limits) v L
-  pub talk : Knows c limits t v L
+  pub run : KnowsRun early (setting c v.number limits) v L
+  pub talk : KnowsTalk c limits t v L
 
 -- a list begins with another
 pub record Begins {X : Type 0} (front whole : List X) : Type 0 where
   pub rest : List X
   pub is : front ++ rest ≡ whole
 
--- Memory was wanting, and the talk was given up. What stands is a front of what it names.
+-- Memory ran out, and the talk was given up. What stands is a front of what it names.
 pub record KnowsInPart (run : Run) (t : View) (L : List Item) : Type 0 where
   pub over : t.over ≡ true
   pub texts : t.texts ≡ []

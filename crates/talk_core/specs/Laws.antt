@@ -27,7 +27,7 @@ use Rattle.talk_core.specs.View.{View, begun, given_up}
 use Rattle.talk_core.specs.Hearing.{heard, run_heard}
 use Rattle.talk_core.specs.Acting.{acted, acting}
 use Rattle.talk_core.specs.Setting.{setting}
-use Rattle.talk_core.specs.Knows.{Knows, StandsFor, KnowsInPart, run_of}
+use Rattle.talk_core.specs.Knows.{KnowsTalk, StandsFor, KnowsInPart, run_of}
 
 -- ---- its beginning
 
@@ -68,7 +68,7 @@ given t (CloseWs d code) = record t { code = None }
 given t (Shut d why) = given_up t
 given t _ = t
 
--- Nothing is left to be said or sent, and the talk is over; or memory was wanting.
+-- Nothing is left to be said or sent, and the talk is over; or memory ran out.
 pub record MayShut (t : View) (v : RunView) (c : ℕ) (reason : Why) : Type 0 where
   pub conn : c ≡ t.conn
   pub why : (t.over || is_no_memory reason) ≡ true
@@ -106,9 +106,9 @@ RunActsAreKnown = (early may : Bool) (c : ℕ) (limits : Limits) (t : View) (v :
 
 -- ---- want of memory
 
--- Where memory was wanting, what stands is a front of what the talk names.
+-- Where memory ran out, what stands is a front of what the talk names.
 abbrev pub LossesAreKnown : Type 0
-LossesAreKnown = (c : ℕ) (limits : Limits) (t : View) (v : RunView) (L : List Item) → Knows c limits t v L → KnowsInPart (run_of c limits v) (given_up t) L
+LossesAreKnown = (c : ℕ) (limits : Limits) (t : View) (v : RunView) (L : List Item) → KnowsTalk c limits t v L → KnowsInPart (run_of c limits v) (given_up t) L
 
 -- .. also where it was wanting for an event.
 abbrev pub LossesAtEventsAreKnown : Type 0

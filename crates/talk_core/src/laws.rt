@@ -26,12 +26,12 @@ pub fn run_acts_are_known()
     ensures { RunActsAreKnown }
 {}
 
-/// Where memory was wanting, what stands is a front of what the talk names.
+/// Where memory ran out, what stands is a front of what the talk names.
 pub fn losses_are_known()
     ensures { LossesAreKnown }
 {}
 
-/// So it is where memory was wanting for an event.
+/// So it is where memory ran out for an event.
 pub fn losses_at_events_are_known()
     ensures { LossesAtEventsAreKnown }
 {}
@@ -46,7 +46,7 @@ pub fn ends_are_talked()
     ensures { EndsAreTalked }
 {}
 
-/// Where memory was wanting, what stands is good for a connection that is shut for that.
+/// Where memory ran out, what stands is good for a connection that is shut for that.
 pub fn parts_are_talked()
     ensures { PartsAreTalked }
 {}

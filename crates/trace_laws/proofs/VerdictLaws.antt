@@ -52,7 +52,7 @@ step_none site c s g =
         (
           ap (name_if_broken _) g.good.launches,
           (
-            ap (name_if_broken _) g.good.upgrade_acts,
+            ap (name_if_broken _) g.good.talk_acts,
             (
               ap (name_if_broken _) g.good.upgrades,
               (

@@ -21,7 +21,7 @@ use Rattle.trace_model.specs.Steps.{goes_on, exchanges_in, each_act}
 use Rattle.trace_model.specs.Stops.{stops}
 use Rattle.trace_model.specs.Streams.{streams, begins_no_sooner}
 use Rattle.trace_model.specs.TakesNoMemory.{takes_no_memory}
-use Rattle.trace_model.specs.Talks.{is_right_upgrade, upgrades, talks}
+use Rattle.trace_model.specs.Talks.{is_right_talk_act, upgrades, talks}
 use Rattle.trace_model.specs.Wants.{wants}
 
 -- ---- one connection, by its own items alone; s is a step of these
@@ -31,7 +31,7 @@ pub record IsGood (site : Site) (c : ℕ) (s : Step) : Type 0 where
   pub replies : replies site c (goes_on site c s) ≡ true
   pub replies_end : replies_end c (exchanges_in site c s) ≡ true
   pub launches : each_act site c (is_right_start site c) s ≡ true
-  pub upgrade_acts : each_act site c (is_right_upgrade site c) s ≡ true
+  pub talk_acts : each_act site c (is_right_talk_act site c) s ≡ true
   pub upgrades : upgrades site c (goes_on site c s) ≡ true
   pub talks : talks site c (goes_on site c s) ≡ true
   pub shuts : shuts site c s ≡ true

@@ -1,9 +1,9 @@
 -- What stands of a WebSocket.
 use Rattle.std.specs.Prelude.{ℕ, Bool, true, not, ◌&&◌, if◌then◌else◌, List, bytes_eq, nat_eq}
-use Rattle.std.specs.List.{list_all, starts_with}
+use Rattle.std.specs.List.{list_all, list_any, starts_with}
 use Rattle.host_base.specs.declared.site.Site.{Site}
 use Rattle.host_trace.specs.declared.items.Act.{Act}
-use Rattle.host_trace.specs.declared.items.Act.TheVariants.{Upgrade}
+use Rattle.host_trace.specs.declared.items.Act.TheVariants.{CloseWs, Says, Upgrade}
 use Rattle.host_trace.specs.declared.items.Item.{Item}
 use Rattle.host_trace.specs.Projections.{said, shut_for_memory, upgraded}
 use Rattle.host_trace.specs.Decider.{is_websocket}
@@ -17,12 +17,19 @@ use Rattle.trace_model.specs.Exchanges.{left_over}
 use Rattle.trace_model.specs.Sameness.{are_same, begins_list}
 use Rattle.trace_model.specs.Talk.{texts_due, input_due, pieces_fed, code_due, codes_sent}
 
--- an Upgrade follows the accept text, and its rest is what the client sent after the handshake
-abbrev pub is_right_upgrade : Site → ℕ → Exchange → Act → Bool
-is_right_upgrade site c e (Upgrade d rest) = is_welcomed site c e (stage site c e) && bytes_eq rest (left_over site c e)
-is_right_upgrade site c e _ = true
+-- the program of a WebSocket was started
+abbrev pub has_talk : Site → ℕ → Exchange → Bool
+has_talk site c e = list_any (λ leg. is_websocket leg.kind) (legs site c e)
 
--- .. and stands in the step of the accept text
+-- an Upgrade follows the accept text, and its rest is what the client sent after the handshake; and before the program
+-- was started no text is said and no close frame is sent
+abbrev pub is_right_talk_act : Site → ℕ → Exchange → Act → Bool
+is_right_talk_act site c e (Upgrade d rest) = is_welcomed site c e (stage site c e) && bytes_eq rest (left_over site c e)
+is_right_talk_act site c e (Says d texts) = has_talk site c e
+is_right_talk_act site c e (CloseWs d code) = has_talk site c e
+is_right_talk_act site c e _ = true
+
+-- the Upgrade stands in the step of the accept text
 abbrev pub upgrades : Site → ℕ → Exchange → Bool
 upgrades site c e = implies (is_welcomed site c e (stage site c e) && not (shut_for_memory (all_of e) c)) (upgraded e.items c)
 

@@ -26,7 +26,7 @@ use Rattle.trace_model.specs.Steps.{goes_on, exchanges_in, heard_of, each_act}
 use Rattle.trace_model.specs.Stops.{stops}
 use Rattle.trace_model.specs.Streams.{streams, begins_no_sooner}
 use Rattle.trace_model.specs.TakesNoMemory.{takes_no_memory}
-use Rattle.trace_model.specs.Talks.{is_right_upgrade, upgrades, talks}
+use Rattle.trace_model.specs.Talks.{is_right_talk_act, upgrades, talks}
 use Rattle.trace_model.specs.Wants.{wants}
 
 -- a rule, and whether it is kept
@@ -58,7 +58,7 @@ rules_at site c s e es =
     kept_by (codes "replies") (replies site c e)
     ∷ kept_by (codes "replies_end") (replies_end c es)
     ∷ kept_by (codes "launches") (each_act site c (is_right_start site c) s)
-    ∷ kept_by (codes "upgrade_acts") (each_act site c (is_right_upgrade site c) s)
+    ∷ kept_by (codes "talk_acts") (each_act site c (is_right_talk_act site c) s)
     ∷ kept_by (codes "upgrades") (upgrades site c e)
     ∷ kept_by (codes "talks") (talks site c e)
     ∷ kept_by (codes "shuts") (shuts site c s)

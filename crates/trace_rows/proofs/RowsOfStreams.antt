@@ -145,3 +145,24 @@ raw_from_a_tick_is_good = refl
 raw_from_a_tick_has : length (exchanges site 0 raw_from_a_tick) ≡ 2
 unfolding on_dates
 raw_from_a_tick_has = refl
+
+-- the Date is that of the clock at its first byte, though a day goes by before the rest
+abbrev pub streamed_over_a_day : List Item
+streamed_over_a_day =
+    In (Accepted peer) ∷ Out (WantClient 0)
+    ∷ In (ClientBytes 0 (codes "GET /h HTTP/1.1\r\nHost: a\r\nConnection: close\r\n\r\n")) ∷ Out (Start 0 0 0 0 (launch (codes "/p") (codes "GET") (codes "/h")))
+    ∷ In (Started 0) ∷ Out (EndInput 0) ∷ Out (WantChild 0)
+    ∷ In (ChildBytes 0 (codes "Content-Type: text/plain\n\nhi\n")) ∷ Out (WantChild 0)
+    ∷ In (Tick 0) ∷ Out (Write 0 (codes "HTTP/1.1 200 OK\r\nContent-Type: text/plain\r\nDate: Thu, 01 Jan 1970 00:00:00 GMT\r\nTransfer-Encoding: chunked\r\nConnection: close\r\n\r\n3\r\nhi\n\r\n"))
+    ∷ In (Tick 86400)
+    ∷ In (ChildBytes 0 (codes "b")) ∷ Out (Write 0 (codes "1\r\nb\r\n")) ∷ Out (WantChild 0)
+    ∷ In (ChildEof 0) ∷ Out (Write 0 (codes "0\r\n\r\n")) ∷ Out (Shut 0 Done)
+    ∷ In (Exited 0) ∷ []
+
+streamed_over_a_day_is_good : broken_by site streamed_over_a_day ≡ []
+unfolding on_dates
+streamed_over_a_day_is_good = refl
+
+streamed_over_a_day_has : length (exchanges site 0 streamed_over_a_day) ≡ 2
+unfolding on_dates
+streamed_over_a_day_has = refl

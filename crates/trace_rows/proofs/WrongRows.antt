@@ -133,7 +133,7 @@ upgraded_by_itself =
     In (Accepted peer) ∷ Out (WantClient 0)
     ∷ In (Wrote 0 1) ∷ Out (Upgrade 0 []) ∷ []
 
-upgraded_by_itself_is_wrong : broken_by site upgraded_by_itself ≡ codes "upgrade_acts" ∷ []
+upgraded_by_itself_is_wrong : broken_by site upgraded_by_itself ≡ codes "talk_acts" ∷ []
 unfolding on_dates
 upgraded_by_itself_is_wrong = refl
 

@@ -2,10 +2,10 @@
 use Rattle.std.proofs.Common.{◌≡◌, List, [], ◌∷◌, refl}
 use Rattle.std.specs.Prelude.{codes}
 use Rattle.host_trace.specs.declared.items.Event.TheVariants.{Accepted, ClientBytes, Started, ChildBytes, ChildEof, WsText}
-use Rattle.host_trace.specs.declared.items.Act.TheVariants.{WantClient, Write, Shut, Start, Feed, EndInput, WantChild, Upgrade, Says, CloseWs}
+use Rattle.host_trace.specs.declared.items.Act.TheVariants.{WantClient, Write, Shut, Start, Feed, EndInput, WantChild, Kill, Upgrade, Says, CloseWs}
 use Rattle.host_trace.specs.declared.items.Item.{Item}
 use Rattle.host_trace.specs.declared.items.Item.TheVariants.{In, Out}
-use Rattle.host_trace.specs.declared.items.Why.TheVariants.{Done}
+use Rattle.host_trace.specs.declared.items.Why.TheVariants.{Done, NoMemory}
 use Rattle.trace_model.specs.Verdict.{broken_by}
 use Rattle.trace_rows.proofs.OnTalks.{on_talks}
 use Rattle.trace_rows.proofs.Site.{site, peer, launch_talk}
@@ -36,7 +36,7 @@ another_rest =
     In (Accepted peer) ∷ Out (WantClient 0)
     ∷ In (ClientBytes 0 (codes "GET /w HTTP/1.1\r\nHost: a\r\nUpgrade: websocket\r\nConnection: Upgrade\r\nSec-WebSocket-Key: dGhlIHNhbXBsZSBub25jZQ==\r\nSec-WebSocket-Version: 13\r\n\r\nf")) ∷ Out (Write 0 (codes "HTTP/1.1 101 Switching Protocols\r\nUpgrade: websocket\r\nConnection: Upgrade\r\nSec-WebSocket-Accept: s3pPLMBiTxaQ9kYGzzhZRbK+xOo=\r\n\r\n")) ∷ Out (Upgrade 0 []) ∷ Out (Start 0 0 0 0 (launch_talk (codes "/s") (codes "GET") (codes "/w"))) ∷ []
 
-another_rest_is_wrong : broken_by site another_rest ≡ codes "upgrade_acts" ∷ []
+another_rest_is_wrong : broken_by site another_rest ≡ codes "talk_acts" ∷ []
 unfolding on_talks
 another_rest_is_wrong = refl
 
@@ -88,3 +88,57 @@ fed_in_pieces =
 fed_in_pieces_is_wrong : broken_by site fed_in_pieces ≡ codes "talks" ∷ []
 unfolding on_talks
 fed_in_pieces_is_wrong = refl
+
+-- no program was started, and a text is said and two close frames are sent
+abbrev pub without_program : List Item
+without_program =
+    In (Accepted peer) ∷ Out (WantClient 0)
+    ∷ In (ClientBytes 0 (codes "GET /w HTTP/1.1\r\nHost: a\r\nUpgrade: websocket\r\nConnection: Upgrade\r\nSec-WebSocket-Key: dGhlIHNhbXBsZSBub25jZQ==\r\nSec-WebSocket-Version: 13\r\n\r\nf")) ∷ Out (Write 0 (codes "HTTP/1.1 101 Switching Protocols\r\nUpgrade: websocket\r\nConnection: Upgrade\r\nSec-WebSocket-Accept: s3pPLMBiTxaQ9kYGzzhZRbK+xOo=\r\n\r\n")) ∷ Out (Upgrade 0 (codes "f")) ∷ Out (Says 0 ((codes "evil") ∷ [])) ∷ Out (CloseWs 0 4242) ∷ Out (CloseWs 0 7) ∷ Out (Shut 0 NoMemory) ∷ []
+
+without_program_is_wrong : broken_by site without_program ≡ codes "talk_acts" ∷ []
+unfolding on_talks
+without_program_is_wrong = refl
+
+-- no program was started, and a close frame is sent
+abbrev pub closed_without_program : List Item
+closed_without_program =
+    In (Accepted peer) ∷ Out (WantClient 0)
+    ∷ In (ClientBytes 0 (codes "GET /w HTTP/1.1\r\nHost: a\r\nUpgrade: websocket\r\nConnection: Upgrade\r\nSec-WebSocket-Key: dGhlIHNhbXBsZSBub25jZQ==\r\nSec-WebSocket-Version: 13\r\n\r\nf")) ∷ Out (Write 0 (codes "HTTP/1.1 101 Switching Protocols\r\nUpgrade: websocket\r\nConnection: Upgrade\r\nSec-WebSocket-Accept: s3pPLMBiTxaQ9kYGzzhZRbK+xOo=\r\n\r\n")) ∷ Out (Upgrade 0 (codes "f")) ∷ Out (CloseWs 0 1011) ∷ Out (Shut 0 NoMemory) ∷ []
+
+closed_without_program_is_wrong : broken_by site closed_without_program ≡ codes "talk_acts" ∷ []
+unfolding on_talks
+closed_without_program_is_wrong = refl
+
+-- a text is said before the program is started, in the same step
+abbrev pub said_before_start : List Item
+said_before_start =
+    In (Accepted peer) ∷ Out (WantClient 0)
+    ∷ In (ClientBytes 0 (codes "GET /w HTTP/1.1\r\nHost: a\r\nUpgrade: websocket\r\nConnection: Upgrade\r\nSec-WebSocket-Key: dGhlIHNhbXBsZSBub25jZQ==\r\nSec-WebSocket-Version: 13\r\n\r\nf")) ∷ Out (Write 0 (codes "HTTP/1.1 101 Switching Protocols\r\nUpgrade: websocket\r\nConnection: Upgrade\r\nSec-WebSocket-Accept: s3pPLMBiTxaQ9kYGzzhZRbK+xOo=\r\n\r\n")) ∷ Out (Upgrade 0 (codes "f")) ∷ Out (Says 0 ((codes "evil") ∷ [])) ∷ Out (Start 0 0 0 0 (launch_talk (codes "/s") (codes "GET") (codes "/w"))) ∷ []
+
+said_before_start_is_wrong : broken_by site said_before_start ≡ codes "talk_acts" ∷ codes "talks" ∷ codes "says" ∷ []
+unfolding on_talks
+said_before_start_is_wrong = refl
+
+-- two close frames are sent
+abbrev pub closed_twice : List Item
+closed_twice =
+    In (Accepted peer) ∷ Out (WantClient 0)
+    ∷ In (ClientBytes 0 (codes "GET /w HTTP/1.1\r\nHost: a\r\nUpgrade: websocket\r\nConnection: Upgrade\r\nSec-WebSocket-Key: dGhlIHNhbXBsZSBub25jZQ==\r\nSec-WebSocket-Version: 13\r\n\r\nf")) ∷ Out (Write 0 (codes "HTTP/1.1 101 Switching Protocols\r\nUpgrade: websocket\r\nConnection: Upgrade\r\nSec-WebSocket-Accept: s3pPLMBiTxaQ9kYGzzhZRbK+xOo=\r\n\r\n")) ∷ Out (Upgrade 0 (codes "f")) ∷ Out (Start 0 0 0 0 (launch_talk (codes "/s") (codes "GET") (codes "/w")))
+    ∷ In (Started 0) ∷ Out (WantChild 0) ∷ Out (WantClient 0)
+    ∷ In (ChildEof 0) ∷ Out (CloseWs 0 1000) ∷ Out (CloseWs 0 1000) ∷ Out (EndInput 0) ∷ Out (Shut 0 Done) ∷ []
+
+closed_twice_is_wrong : broken_by site closed_twice ≡ codes "talks" ∷ []
+unfolding on_talks
+closed_twice_is_wrong = refl
+
+-- memory is wanting, and a close frame is sent though nothing ended the talk
+abbrev pub closed_for_memory : List Item
+closed_for_memory =
+    In (Accepted peer) ∷ Out (WantClient 0)
+    ∷ In (ClientBytes 0 (codes "GET /w HTTP/1.1\r\nHost: a\r\nUpgrade: websocket\r\nConnection: Upgrade\r\nSec-WebSocket-Key: dGhlIHNhbXBsZSBub25jZQ==\r\nSec-WebSocket-Version: 13\r\n\r\nf")) ∷ Out (Write 0 (codes "HTTP/1.1 101 Switching Protocols\r\nUpgrade: websocket\r\nConnection: Upgrade\r\nSec-WebSocket-Accept: s3pPLMBiTxaQ9kYGzzhZRbK+xOo=\r\n\r\n")) ∷ Out (Upgrade 0 (codes "f")) ∷ Out (Start 0 0 0 0 (launch_talk (codes "/s") (codes "GET") (codes "/w")))
+    ∷ In (Started 0) ∷ Out (WantChild 0) ∷ Out (WantClient 0)
+    ∷ In (ChildBytes 0 (codes "x\n")) ∷ Out (CloseWs 0 4242) ∷ Out (EndInput 0) ∷ Out (Kill 0) ∷ Out (Shut 0 NoMemory) ∷ []
+
+closed_for_memory_is_wrong : broken_by site closed_for_memory ≡ codes "talks" ∷ []
+unfolding on_talks
+closed_for_memory_is_wrong = refl

@@ -1,3 +1,3 @@
-// What the run of one child does, and what the marks of a connection say.
-mod marks;
+// What the run of one child does, and what the flags of a connection say.
+mod flags;
 mod runs;

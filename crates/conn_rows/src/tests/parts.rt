@@ -1,4 +1,4 @@
-// Bytes that grow part by part. Where memory was wanting once they are lost.
+// Bytes that grow part by part. Where memory ran out once they are lost.
 use host_base::{Bytes, NoMemory};
 use std::alloc::Global;
 
@@ -30,7 +30,7 @@ impl Parts {
         self.bytes.as_slice()
     }
 
-    // What they say, where memory was not wanting.
+    // What they say, where memory did not run out.
     pub fn text(&self) -> Result<&str, NoMemory> {
         if self.lost {
             return Err(NoMemory);

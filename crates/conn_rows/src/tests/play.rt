@@ -2,10 +2,10 @@
 ghost use Rattle.std.specs.Prelude.{◌≡◌};
 ghost use Rattle.host_base.specs.SiteRules.{IsServed};
 ghost use Rattle.reply_writer.specs.WholeRules.{IsStamp};
-ghost use Rattle.any_conn.specs.AnyConn.{may_step, site_of};
+ghost use Rattle.conn_phase.specs.Phase.{may_step, site_of};
 
 use super::recorder::Recorder;
-use any_conn::AnyConn;
+use conn_phase::Phase;
 use host_base::Site;
 use host_trace::Event;
 use reply_writer::DATES_END;
@@ -30,7 +30,7 @@ fn secs_of(event: &Event, clock: Option<u64>) -> Option<u64> {
 
 // A step of a connection, of which nothing is said but that the next one may come.
 fn tell_event(
-    conn: &mut AnyConn<'_>,
+    conn: &mut Phase<'_>,
     event: Event,
     now: Option<u64>,
     children: &mut u64,
@@ -46,7 +46,7 @@ fn tell_event(
 }
 
 // Tells the events to a connection.
-fn drive(conn: &mut AnyConn<'_>, events: Vec<Option<Event>>, out: &mut Recorder)
+fn drive(conn: &mut Phase<'_>, events: Vec<Option<Event>>, out: &mut Recorder)
     requires served { IsServed (site_of conn.old) }
     requires talks { may_step conn.old }
 {
@@ -76,7 +76,7 @@ pub fn play(
 ) -> Recorder
     requires { IsServed site.now }
 {
-    let mut conn = AnyConn::new(alloc, site, 0);
+    let mut conn = Phase::new(alloc, site, 0);
     let mut out = Recorder::new(alloc, refused);
     drive(&mut conn, events, &mut out);
     let_go(conn);

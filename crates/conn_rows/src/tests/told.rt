@@ -56,7 +56,7 @@ impl Told {
         }
     }
 
-    // Memory was wanting.
+    // Memory ran out.
     pub fn is_lost(&self) -> bool {
         self.log.is_lost()
             || self.shape.is_lost()

@@ -1,5 +1,5 @@
 mod cases;
-mod marks;
+mod flags;
 mod plain;
 mod seeded;
 
@@ -10,8 +10,8 @@ use cases::{
     run_of,
 };
 use child_core::*;
+use flags::{Mark, Recording};
 use host_base::{Cause, NoMemory};
-use marks::{Mark, Recording};
 use plain::Rules;
 use seeded::list_of;
 use std::alloc::Global;
@@ -73,10 +73,10 @@ const ONE_TICK: Rules = Rules {
 };
 
 // Its output is asked for, and these happen one after another; an exit may come at first or at last.
-fn outcome_of(alloc: Global, marks: &[Mark]) -> Result<Option<Outcome>, NoMemory> {
+fn outcome_of(alloc: Global, flags: &[Mark]) -> Result<Option<Outcome>, NoMemory> {
     let mut run = run_of(alloc, &ONE_TICK);
     let mut out = Recording::new();
-    for mark in marks {
+    for mark in flags {
         let _may = happens(alloc, &mut run, *mark, 0)?;
         out.clear();
         run.act(true, &mut out)?;

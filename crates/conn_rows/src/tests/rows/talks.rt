@@ -326,7 +326,7 @@ Closed
     Shut Done
 ";
 
-// These depend on how the client's bytes were cut, or on what memory was wanting for.
+// These depend on how the client's bytes were cut, or on what memory ran out for.
 const OTHERS: &str = r"
 SWITCHED = Write HTTP/1.1 101 Switching Protocols\r\nUpgrade: websocket\r\nConnection: Upgrade\r\nSec-WebSocket-Accept: s3pPLMBiTxaQ9kYGzzhZRbK+xOo=\r\n\r\n
 NO_ORIGIN = Write HTTP/1.1 403 Forbidden\r\nContent-Type: text/plain\r\nContent-Length: 15\r\n\r\norigin refused\n

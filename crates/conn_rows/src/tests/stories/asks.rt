@@ -52,7 +52,7 @@ pub struct Ask {
     pub roles: Vec<Role>,
     // The client waits behind the head until nothing else goes on.
     pub waits: bool,
-    // Memory was wanting for a role.
+    // Memory ran out for a role.
     lost: bool,
 }
 

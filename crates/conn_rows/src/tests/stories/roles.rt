@@ -65,7 +65,7 @@ pub struct Role {
     // Whether it takes its input.
     pub takes: bool,
     pub deeds: Vec<Deed>,
-    // Memory was wanting for a deed.
+    // Memory ran out for a deed.
     lost: bool,
 }
 

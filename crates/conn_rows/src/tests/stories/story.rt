@@ -52,7 +52,7 @@ pub struct Story {
     pub trouble: Option<(When, Turn)>,
     // What the clock shows at odd and even Ticks.
     pub clocks: (u64, u64),
-    // Memory was wanting for a request or a place.
+    // Memory ran out for a request or a place.
     lost: bool,
 }
 

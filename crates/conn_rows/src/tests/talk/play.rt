@@ -51,7 +51,7 @@ impl Played {
         }
     }
 
-    // Memory was wanting.
+    // Memory ran out.
     fn give_up(&mut self) -> Why {
         self.run.end_by(Ending::Dropped);
         self.talk.shut();

@@ -115,7 +115,7 @@ pub struct Story {
     pub asks: Vec<Ask>,
     pub stream: Parts,
     pub beats: Vec<Beat>,
-    // Memory was wanting for a request or a beat.
+    // Memory ran out for a request or a beat.
     lost: bool,
 }
 

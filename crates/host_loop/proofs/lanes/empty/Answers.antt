@@ -2,7 +2,7 @@
 use Rattle.std.proofs.Common.{rules, arith, ◌≡◌, Some, true, subst, inl, inr}
 use Rattle.std.proofs.lemmas.Grind.{common_steps}
 use Rattle.std.proofs.lemmas.List.Elements.{All-push, All-pop}
-use Rattle.all_conns.specs.Stands.{Good}
+use Rattle.host_core.specs.Stands.{Good}
 use Rattle.host_loop.specs.Loops.{HasEnded, WasServed, WhereTold, is_ended}
 use Rattle.host_loop.specs.Served.{Served}
 use Rattle.host_loop.specs.declared.serve.LoopEnd.{LoopEnd}

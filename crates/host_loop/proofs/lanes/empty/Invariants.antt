@@ -1,6 +1,6 @@
 -- What is so of the outsides so far, by the worst end of their loops; with those that are left they have the order of all.
 use Rattle.std.specs.Prelude.{◌≡◌, ◌≤◌, ◌+◌, ◌++◌, true, All, map, reverse, vec_len, vec_capacity}
-use Rattle.all_conns.specs.Stands.{Good}
+use Rattle.host_core.specs.Stands.{Good}
 use Rattle.host_loop.specs.Loops.{HasEnded, IsAny, WasServed, WhereTold, is_ended}
 use Rattle.host_loop.specs.Served.{Served}
 use Rattle.host_loop.specs.declared.serve.LoopEnd.TheVariants.{Done, Spent}

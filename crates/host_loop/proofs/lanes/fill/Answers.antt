@@ -2,7 +2,7 @@
 use Rattle.std.proofs.Common.{rules, arith, ◌≡◌, Some, ◌∙◌, sym, ap}
 use Rattle.std.proofs.lemmas.Grind.{common_steps}
 use Rattle.std.proofs.lemmas.List.Elements.{All-push, All-pop}
-use Rattle.all_conns.specs.Owners.{served}
+use Rattle.host_core.specs.Owners.{served}
 use Rattle.host_loop.specs.Loops.{HasHeardNothing, IsFresh}
 use Rattle.host_loop.proofs.CoreLaws.{heard_nothing}
 use Rattle.host_loop.proofs.OrderLaws.{moved_in, none_left}

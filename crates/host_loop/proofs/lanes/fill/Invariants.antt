@@ -1,7 +1,7 @@
 -- As many cores are left as outsides, the lanes so far have heard nothing, and with the outsides that are left they have the
 -- order of all.
 use Rattle.std.specs.Prelude.{◌≡◌, ◌≤◌, ◌+◌, ◌++◌, All, map, reverse, vec_len, vec_capacity}
-use Rattle.all_conns.specs.Owners.{served}
+use Rattle.host_core.specs.Owners.{served}
 use Rattle.host_loop.specs.Loops.{HasHeardNothing, IsFresh}
 use Rattle.host_loop.proofs.lanes.fill.Given as goal
 

@@ -1,6 +1,6 @@
 -- The core is of the site.
 use Rattle.std.proofs.Common.{subst}
-use Rattle.all_conns.specs.Stands.{Good}
+use Rattle.host_core.specs.Stands.{Good}
 use Rattle.host_loop.proofs.serve.serve_one.Goals as goal
 
 pub returns-in-Ok-clause-good : goal.returns-in-Ok-clause-good

@@ -3,8 +3,8 @@ use Rattle.std.proofs.Common.{rules, ◌≡◌, List, Some, sym, ◌∙◌, subs
 use Rattle.host_trace.specs.declared.items.Item.{Item}
 use Rattle.host_trace.specs.Projections.{stopped}
 use Rattle.host_trace.specs.Account.{all_settled}
-use Rattle.all_conns.proofs.GoodLaws.{stands_good}
-use Rattle.all_conns.specs.Stands.{Good}
+use Rattle.host_core.proofs.GoodLaws.{stands_good}
+use Rattle.host_core.specs.Stands.{Good}
 use Rattle.host_loop.specs.Served.{is_over}
 use Rattle.host_loop.proofs.OverLaws.{and_true, never_over, first_over, not_settled, not_stopped}
 use Rattle.host_loop.proofs.TurnLaws.{told_still, turned}

@@ -3,8 +3,8 @@
 use Rattle.std.specs.Prelude.{◌≡◌, ◌≤◌, List, Some, false}
 use Rattle.host_trace.specs.declared.items.Item.{Item}
 use Rattle.host_trace.specs.Projections.{event_count}
-use Rattle.all_conns.specs.Owners.{Sound, served}
-use Rattle.all_conns.specs.Stands.{Stands}
+use Rattle.host_core.specs.Owners.{Sound, served}
+use Rattle.host_core.specs.Stands.{Stands}
 use Rattle.host_loop.specs.Loops.{WasTold}
 use Rattle.host_loop.specs.Served.{is_over, over_count}
 use Rattle.host_loop.proofs.turns.take_turns.Given as goal

@@ -1,8 +1,8 @@
 -- The lanes of the outsides take their turns, and the outsides come back.
 use Rattle.std.proofs.Common.{rules, ◌≡◌, ◌∙◌, refl, length, drop, arith}
 use Rattle.std.proofs.lemmas.Grind.{common_steps}
-use Rattle.all_conns.specs.Stands.{Good}
-use Rattle.host_conns.specs.Host.{host_kind}
+use Rattle.host_core.specs.Stands.{Good}
+use Rattle.conn_core.specs.Kind.{conn_kind}
 use Rattle.host_loop.specs.Loops.{WasTold}
 use Rattle.host_serve.proofs.GoodLaws.{all_promised}
 use Rattle.host_serve.proofs.LaneLaws.{ended_all, outs_kept, written}
@@ -20,7 +20,7 @@ empty-requires g c = λ κs.
     let all : length after ≡ c.in-Ok.lanes.len = same ∙ c.as_mut_slice.ensures.len in (
       (refl, tt),
       (
-        rw (written c.in-Ok.lanes.len after (drop (length after) c.in-Ok.lanes.items) all) (ended_all g.O.Outside.trace before after same c.take_all_turns.ensures.keeps (λ s. Good host_kind s) c.args.site.now c.args.turns (rw c.as_mut_slice.ensures.value (λ k d lt. (c.in-Ok.ensures.each k d lt).0)) c.take_all_turns.ensures.ended),
+        rw (written c.in-Ok.lanes.len after (drop (length after) c.in-Ok.lanes.items) all) (ended_all g.O.Outside.trace before after same c.take_all_turns.ensures.keeps (λ s. Good conn_kind s) c.args.site.now c.args.turns (rw c.as_mut_slice.ensures.value (λ k d lt. (c.in-Ok.ensures.each k d lt).0)) c.take_all_turns.ensures.ended),
         (c.in-Ok.ensures.empty, first_of (search rules, grind (arith, common_steps, c.in-Ok.ensures.room, c.in-Ok.ensures.count))),
       ),
     )

@@ -1,6 +1,6 @@
 -- The length of all texts is the sum over the acts.
 use Rattle.std.proofs.Common.{◌-◌, ◌^◌, min, sym, ◌∙◌, ap}
-use Rattle.memory_world.proofs.SumLaws.{said_len-acts}
+use Rattle.trace_tallies.proofs.SumLaws.{said_len-acts}
 use Rattle.memory_world.proofs.sums.said_len.Goals as goal
 
 pub returns : goal.returns

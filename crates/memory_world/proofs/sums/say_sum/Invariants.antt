@@ -1,7 +1,7 @@
 -- The sum of the items so far, as far as a u128 goes.
 use Rattle.std.proofs.Common.{◌≡◌, ◌-◌, ◌^◌, take, min}
 use Rattle.std.specs.Prelude.{sum_by}
-use Rattle.memory_world.specs.Sums.{texts_len}
+use Rattle.trace_tallies.specs.Sums.{texts_len}
 use Rattle.memory_world.proofs.sums.say_sum.Given as goal
 
 abbrev pub invariant-loop-item : goal.invariant-loop-item

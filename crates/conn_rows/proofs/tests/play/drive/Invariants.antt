@@ -1,5 +1,5 @@
 use Rattle.host_base.specs.SiteRules.{IsServed}
-use Rattle.any_conn.specs.AnyConn.{may_step, site_of}
+use Rattle.conn_phase.specs.Phase.{may_step, site_of}
 use Rattle.conn_rows.proofs.tests.play.drive.Given as goal
 
 abbrev pub invariant-loop-event : goal.invariant-loop-event

@@ -1,6 +1,6 @@
 // Cases by hand: what happens to a child, with the acts that follow each time, and what becomes of its run.
-use super::marks::Mark::{self, *};
-use super::marks::{Recording, event_of, give};
+use super::flags::Mark::{self, *};
+use super::flags::{Recording, event_of, give};
 use super::plain::Rules;
 use child_core::{Outcome, Run};
 use host_base::{Cause, Limits, NoMemory, ScriptKind};

@@ -1,5 +1,5 @@
 // The rules on a child, computed on the list of all that happened since its Start: slow and simple.
-use super::marks::Mark;
+use super::flags::Mark;
 use child_core::Outcome;
 use host_base::{Cause, NoMemory, ScriptKind};
 

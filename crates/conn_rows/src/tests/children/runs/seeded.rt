@@ -1,6 +1,6 @@
 // Lists of what may happen to a child, each made from a number, driven through a run and computed by the plain rules.
 use super::super::super::numbers::Numbers;
-use super::marks::{Mark, Recording, event_of, give};
+use super::flags::{Mark, Recording, event_of, give};
 use super::plain::{self, Rules};
 use child_core::Run;
 use host_base::{Limits, NoMemory, ScriptKind};

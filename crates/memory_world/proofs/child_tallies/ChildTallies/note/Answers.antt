@@ -1,7 +1,9 @@
 -- The tally of the child that the item names goes on, and the others stay.
 use Rattle.std.proofs.Common.{sym, ap, ◌∙◌}
-use Rattle.memory_world.specs.ChildTallies.{child_at, child_with, waits, runs}
-use Rattle.memory_world.proofs.ChildTallyLaws.{child_rests, children_kept, sets_kept}
+use Rattle.trace_tallies.specs.ChildTallies.{child_with, waits, runs}
+use Rattle.memory_world.specs.ChildTallies.{child_at}
+use Rattle.trace_tallies.proofs.ChildTallyLaws.{child_rests}
+use Rattle.memory_world.proofs.ChildTallyLaws.{children_kept, sets_kept}
 use Rattle.memory_world.proofs.child_tallies.ChildTallies.note.Goals as goal
 
 pub returns-in_default-clause-rows : goal.returns-in_default-clause-rows
@@ -10,7 +12,7 @@ returns-in_default-clause-rows c = λ noted q. sym (child_rests q c.args.item.no
 pub returns-clause-rows : goal.returns-clause-rows
 returns-clause-rows c = λ noted.
     children_kept c.args.self.now.rows c.keep.new.self.rows c.args.item.now c.in-Some.k c.in-Some-with.tally (c.keep.ensures.rows noted) c.in-Some.ensures
-    (c.in-Some-with.ensures ∙ ap (child_with c.in-Some.k c.args.item.now) c.child_in.ensures)
+    (c.in-Some-with.ensures.some ∙ ap (child_with c.in-Some.k c.args.item.now) c.child_in.ensures)
 
 pub returns-clause-waiting : goal.returns-clause-waiting
 returns-clause-waiting c = λ noted.

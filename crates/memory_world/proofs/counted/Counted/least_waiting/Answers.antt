@@ -2,7 +2,7 @@
 use Rattle.std.proofs.Common.{◌∙◌, ap}
 use Rattle.std.specs.Ordering.{nat_cmp}
 use Rattle.std.specs.BTreeSet.{contains}
-use Rattle.memory_world.specs.ChildTallies.{waits}
+use Rattle.trace_tallies.specs.ChildTallies.{waits}
 use Rattle.memory_world.proofs.LeastLaws.{least_open}
 use Rattle.memory_world.proofs.counted.Counted.least_waiting.Goals as goal
 

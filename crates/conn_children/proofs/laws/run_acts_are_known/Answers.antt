@@ -1,5 +1,0 @@
-use Rattle.conn_children.proofs.KnowLaws.{run_acts_known}
-use Rattle.conn_children.proofs.laws.run_acts_are_known.Goals as goal
-
-pub returns : goal.returns
-returns c = run_acts_known

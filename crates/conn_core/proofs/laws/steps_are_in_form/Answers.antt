@@ -1,5 +1,0 @@
-use Rattle.conn_core.proofs.StepLaws.{step_in_form}
-use Rattle.conn_core.proofs.laws.steps_are_in_form.Goals as goal
-
-pub returns : goal.returns
-returns c = step_in_form

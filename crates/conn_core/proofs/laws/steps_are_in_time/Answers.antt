@@ -1,5 +1,0 @@
-use Rattle.conn_core.proofs.StepLaws.{step_in_time}
-use Rattle.conn_core.proofs.laws.steps_are_in_time.Goals as goal
-
-pub returns : goal.returns
-returns c = step_in_time

@@ -1,4 +1,0 @@
-pub mod Moves
-pub mod Front
-pub mod Hearing
-pub mod Laws

@@ -1,5 +1,0 @@
-use Rattle.conn_good.proofs.Shuts.StopLaws.{steps_end_at_stop}
-use Rattle.conn_good.proofs.shut_laws.steps_end_at_stop.Goals as goal
-
-pub returns : goal.returns
-returns c = steps_end_at_stop

@@ -1,5 +1,0 @@
-use Rattle.conn_good.proofs.Shuts.MemoryLaws.{steps_take_no_memory}
-use Rattle.conn_good.proofs.shut_laws.steps_take_no_memory.Goals as goal
-
-pub returns : goal.returns
-returns c = steps_take_no_memory

@@ -1,7 +1,0 @@
-// Laws of the beginning of a step. Each function is one law, and does nothing.
-ghost use Rattle.conn_good.specs.Events.Events.{EventsStand};
-
-/// What is known of a connection at rest is enough for what the parts of a step want to know behind an event.
-pub fn events_stand()
-    ensures { EventsStand }
-{}

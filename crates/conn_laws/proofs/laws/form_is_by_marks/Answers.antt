@@ -1,5 +1,0 @@
-use Rattle.conn_laws.proofs.FormLaws.{form_by_marks}
-use Rattle.conn_laws.proofs.laws.form_is_by_marks.Goals as goal
-
-pub returns : goal.returns
-returns c = form_by_marks

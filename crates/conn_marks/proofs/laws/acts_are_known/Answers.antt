@@ -1,5 +1,0 @@
-use Rattle.conn_marks.proofs.KnowsLaws.{known_all}
-use Rattle.conn_marks.proofs.laws.acts_are_known.Goals as goal
-
-pub returns : goal.returns
-returns c = known_all

@@ -1,5 +1,0 @@
-use Rattle.conn_marks.proofs.KnowsLaws.{events_admitted}
-use Rattle.conn_marks.proofs.laws.events_may_come.Goals as goal
-
-pub returns : goal.returns
-returns c = events_admitted

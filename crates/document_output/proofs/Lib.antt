@@ -1,0 +1,4 @@
+pub mod NumberLaws
+pub mod OutputLaws
+pub mod SpanLaws
+pub mod FolderLaws

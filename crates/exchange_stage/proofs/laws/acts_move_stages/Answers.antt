@@ -1,6 +1,0 @@
-use Rattle.exchange_stage.proofs.GiveLaws.{starts_are_given}
-use Rattle.exchange_stage.proofs.WriteLaws.{continues_are_written, parts_are_written, rests_are_written}
-use Rattle.exchange_stage.proofs.laws.acts_move_stages.Goals as goal
-
-pub returns : goal.returns
-returns c = record { continues = continues_are_written; parts = parts_are_written; rests = rests_are_written; starts = starts_are_given }

@@ -1,0 +1,4 @@
+pub mod Demands
+pub mod Rules
+pub mod Good
+pub mod Verdict

@@ -1,0 +1,5 @@
+pub mod Records
+pub mod RecordLaws
+pub mod Pairs
+pub mod PairLaws
+pub mod Entries

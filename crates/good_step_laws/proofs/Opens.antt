@@ -1,0 +1,14 @@
+pub mod UntalkedLaws
+pub mod StepLaws
+pub mod ClosedLaws
+pub mod GreetWords
+pub mod StartLaws
+pub mod ShutLaws
+pub mod PutLaws
+pub mod ReadyLaws
+pub mod WayLaws
+pub mod FlagWords
+pub mod MetLaws
+pub mod OpeningLaws
+pub mod MemoryLaws
+pub mod MissLaws

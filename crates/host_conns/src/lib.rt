@@ -1,7 +1,0 @@
-//! The connections of this server, as the core of all connections holds them.
-#![tactic(auto)]
-
-mod host_conn;
-mod one_of_many;
-
-pub use host_conn::HostConn;

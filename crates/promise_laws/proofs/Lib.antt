@@ -1,0 +1,9 @@
+pub mod RunLaws
+pub mod GroundLaws
+pub mod BehindLaws
+pub mod RightLaws
+pub mod CompleteLaws
+pub mod DateLaws
+pub mod TalkLaws
+pub mod OtherGrounds
+pub mod OutputLaws

@@ -1,0 +1,5 @@
+mod PairLaws
+mod NumberLaws
+mod Computed
+pub mod StayLaws
+mod ReadingLaws

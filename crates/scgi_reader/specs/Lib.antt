@@ -1,0 +1,6 @@
+pub mod Pairs
+pub mod Numbers
+pub mod Scgi
+pub mod View
+pub mod Reading
+pub mod ScgiLaws

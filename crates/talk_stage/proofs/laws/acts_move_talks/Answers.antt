@@ -1,5 +1,0 @@
-use Rattle.talk_stage.proofs.ActLaws.{asks_move, child_acts_move, shuts_move, talk_acts_move}
-use Rattle.talk_stage.proofs.laws.acts_move_talks.Goals as goal
-
-pub returns : goal.returns
-returns c = record { talk = talk_acts_move; child = child_acts_move; asks = asks_move; shuts = shuts_move }

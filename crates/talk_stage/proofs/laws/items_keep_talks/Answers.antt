@@ -1,7 +1,0 @@
-use Rattle.talk_stage.proofs.HearLaws.{events_keep_talks}
-use Rattle.talk_stage.proofs.QuietLaws.{quiet_events_take_none}
-use Rattle.talk_stage.proofs.StartLaws.{talks_start}
-use Rattle.talk_stage.proofs.laws.items_keep_talks.Goals as goal
-
-pub returns : goal.returns
-returns c = record { starts = talks_start; events = events_keep_talks; quiet = quiet_events_take_none }

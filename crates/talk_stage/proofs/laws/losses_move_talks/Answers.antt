@@ -1,5 +1,0 @@
-use Rattle.talk_stage.proofs.LostLaws.{events_keep_lost, losses_move, lost_acts_move, lost_shuts_move}
-use Rattle.talk_stage.proofs.laws.losses_move_talks.Goals as goal
-
-pub returns : goal.returns
-returns c = record { lost = losses_move; acts = lost_acts_move; shuts = lost_shuts_move; events = events_keep_lost }

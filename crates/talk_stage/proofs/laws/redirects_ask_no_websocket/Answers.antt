@@ -1,5 +1,0 @@
-use Rattle.talk_stage.proofs.RedirectLaws.{redirects_ask_no_websocket as the_law}
-use Rattle.talk_stage.proofs.laws.redirects_ask_no_websocket.Goals as goal
-
-pub returns : goal.returns
-returns c = the_law

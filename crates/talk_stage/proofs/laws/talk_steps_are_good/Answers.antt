@@ -1,5 +1,0 @@
-use Rattle.talk_stage.proofs.GoodLaws.{talk_steps_are_good as the_law}
-use Rattle.talk_stage.proofs.laws.talk_steps_are_good.Goals as goal
-
-pub returns : goal.returns
-returns c = the_law

@@ -1,9 +1,0 @@
-pub mod Http
-pub mod Welcome
-pub mod TalkIs
-pub mod Moves
-pub mod Rules
-pub mod Deals
-pub mod Form
-pub mod Steps
-pub mod LostSteps

@@ -1,8 +1,0 @@
-// The law of a step. The function does nothing.
-ghost use Rattle.talk_steps.specs.Stands.{StepsAreGood};
-
-/// A step of a connection that speaks WebSocket, by an event that fits, keeps all rules of the model on one connection, and
-/// leaves the connection as the next step needs it, whether memory is found or not.
-pub fn talk_steps_are_good()
-    ensures { StepsAreGood }
-{}

@@ -1,0 +1,4 @@
+mod RowLaws
+mod ClientRowLaws
+mod ChildRowLaws
+mod CountLaws

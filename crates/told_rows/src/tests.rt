@@ -1,0 +1,2 @@
+mod misfits;
+mod steps;

@@ -1,0 +1,4 @@
+pub mod SumLaws
+pub mod ClientTallyLaws
+pub mod ChildTallyLaws
+pub mod FitLaws

@@ -1,0 +1,4 @@
+pub mod Sums
+pub mod ClientTallies
+pub mod ChildTallies
+pub mod RowFits

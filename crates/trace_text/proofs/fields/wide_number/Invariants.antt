@@ -1,0 +1,7 @@
+-- The value of the digits so far.
+use Rattle.std.proofs.Common.{◌≡◌, ◌<◌, ◌^◌, take}
+use Rattle.std.specs.Str.Parse.{digits_value}
+use Rattle.trace_text.proofs.fields.wide_number.Given as goal
+
+abbrev pub invariant-loop-byte : goal.invariant-loop-byte
+invariant-loop-byte l = (l.value ≡ digits_value 10 (take l.byte-index l.token)) × (l.value < 2 ^ 128)
