@@ -94,8 +94,8 @@ plays_example() {
 }
 
 for example in examples/* "$root/docs/cgihost.1" "$root/README.md"; do
-    # The page is served by the script beside it.
-    [ "$example" = examples/live.html ] || plays_example "$example"
+    # The page is served by the script beside it, and what wants a program of its own is played by recipes.sh.
+    [ "$example" = examples/live.html ] || grep -q 'docs/recipes.md' "$example" || plays_example "$example"
 done
 
 # ---- what is counted comes as it is counted

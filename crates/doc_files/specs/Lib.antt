@@ -1,3 +1,5 @@
 pub mod Held
 pub mod Both
 pub mod Files
+pub mod Served
+pub mod Owed

@@ -2,6 +2,7 @@
 //! store of files, and everything else by the inner outside.
 #![tactic(auto)]
 
+mod alike;
 mod child;
 mod children;
 mod memory;
@@ -9,6 +10,7 @@ mod outside;
 mod store;
 mod told;
 
+pub use alike::{Alike, are_alike};
 pub use document_output::DocRead;
 pub use memory::{DocFile, MemoryDocs};
 pub use outside::{DocOutside, DocParts};

@@ -3,6 +3,7 @@ ghost use Rattle.std.specs.Prelude.{◌≡◌, ◌+◌, ◌-◌, ◌^◌, min, S
 ghost use Rattle.std.specs.Option.{option_copied};
 ghost use Rattle.doc_files.specs.Files.{is_at};
 
+use crate::alike::are_alike;
 use crate::store::{DocFault, DocStore};
 use document_output::DocRead;
 use host_base::{Bytes, NoMemory, Sequence, Text};
@@ -64,6 +65,10 @@ impl DocStore for MemoryDocs {
 
     fn take_back(&mut self, other: Self) {
         self.faults = self.faults.saturating_add(other.faults);
+    }
+
+    fn holds_as(&self, other: &Self) -> bool {
+        are_alike(self.files.as_slice(), other.files.as_slice())
     }
 
     fn read(&mut self, root: &str, path: &str) -> Result<DocRead, DocFault> {

@@ -1,5 +1,5 @@
 // Where documents are read from.
-ghost use Rattle.std.specs.Prelude.{◌≡◌, ◌≤◌, ◌+◌, ◌-◌, ◌^◌, min, ℕ, Option, IfOk, Err};
+ghost use Rattle.std.specs.Prelude.{◌≡◌, ◌≤◌, ◌+◌, ◌-◌, ◌^◌, min, ℕ, Option, IfOk, Err, true};
 ghost use Rattle.host_base.specs.Outsides.{Rose};
 ghost use Rattle.doc_files.specs.Held.{Held, Reads};
 
@@ -45,6 +45,10 @@ pub trait DocStore: Sized {
     fn take_back(&mut self, other: Self)
         ensures same { held self.new ≡ held self.old }
         ensures faults { min (faults self.old + faults other) (2 ^ 64 - 1) ≤ faults self.new };
+
+    /// Whether it holds what the other one does, as far as the two tell. A store is this to each that it made.
+    fn holds_as(&self, other: &Self) -> bool
+        ensures { result ≡ true → held self.now ≡ held other.now };
 
     /// The bytes of the regular file at a path below a root, or that there is none. The path begins with `/`.
     fn read(&mut self, root: &str, path: &str) -> Result<DocRead, DocFault>

@@ -3,14 +3,18 @@ ghost use Rattle.std.specs.Prelude.{◌≡◌, ℕ, ◌++◌, ◌∷◌, [], tru
 ghost use Rattle.host_trace.specs.declared.items.Item.{Item as AnItem};
 ghost use Rattle.host_trace.specs.declared.items.Item.TheVariants.{In, Out};
 ghost use Rattle.host_trace.specs.Fits.{fits};
+ghost use Rattle.host_trace.specs.Kinds.{is_start};
+ghost use Rattle.host_trace.specs.Projections.{start_stands};
 ghost use Rattle.doc_files.specs.Both.{is_of_limit, seen_by};
+ghost use Rattle.doc_files.specs.Owed.{begins_once};
 
 use host_base::NoMemory;
 use host_trace::{Act, Event, Item};
 use memory_world::fits;
 use std::alloc::Global;
 
-/// Items with room for a number of them. One past the room, or that doesn't fit, ends the telling.
+/// Items with room for a number of them. An item past the room, an event that doesn't fit, and a second Start of one
+/// number end the telling.
 #[derive(Drop)]
 pub struct Told {
     pub items: Vec<Item>,
@@ -35,11 +39,34 @@ fn may_come(items: &[Item], event: &Event) -> bool
     fits(items, event, seen_by(event))
 }
 
+fn is_start(item: &Item, number: u64) -> bool
+    ensures { result ≡ is_start number item.now }
+{
+    matches!(item, Item::Out(Act::Start { k, .. }) if number == *k)
+}
+
+fn start_stands(items: &[Item], number: u64) -> bool
+    ensures { result ≡ start_stands items.now number }
+{
+    items.iter().any(|item| is_start(item, number))
+}
+
+// Whether an act is no second Start of one number.
+fn begins_once(items: &[Item], act: &Act) -> bool
+    ensures { result ≡ begins_once items.now act.now }
+{
+    match act {
+        Act::Start { k, .. } => !start_stands(items, *k),
+        _ => true,
+    }
+}
+
 impl Told {
     ghost use Rattle.std.specs.Prelude.{IfOk, ◌≡◌, ℕ, ◌++◌, ◌∷◌, [], true};
     ghost use Rattle.host_trace.specs.declared.items.Item.TheVariants.{In, Out};
     ghost use Rattle.host_trace.specs.Fits.{fits};
     ghost use Rattle.doc_files.specs.Both.{is_of_limit};
+    ghost use Rattle.doc_files.specs.Owed.{begins_once};
 
     /// Nothing yet, with room for so many items, which are told where `tells` is true.
     pub fn new(alloc: Global, room: usize, tells: bool) -> Result<Self, NoMemory>
@@ -77,9 +104,11 @@ impl Told {
 
     /// Keeps an act.
     pub fn note(&mut self, act: &Act)
-        ensures { self.new.tells ≡ true → (self.old.tells ≡ true) × (self.new.items.items ≡ self.old.items.items ++ Out act.now ∷ []) }
+        ensures once { self.new.tells ≡ true → begins_once self.old.items.items act.now ≡ true }
+        ensures kept { self.new.tells ≡ true → (self.old.tells ≡ true) × (self.new.items.items ≡ self.old.items.items ++ Out act.now ∷ []) }
     {
-        if !self.tells {
+        if !self.tells || !begins_once(self.items.as_slice(), act) {
+            self.tells = false;
             return;
         }
         match act.copy() {

@@ -1,5 +1,6 @@
 mod PairLaws
 mod NumberLaws
+mod NameLaws
 mod Computed
 pub mod StayLaws
 mod ReadingLaws

@@ -16,7 +16,7 @@ use Rattle.scgi_reader.specs.Pairs.{pairs_in, body_length}
 use Rattle.scgi_reader.specs.declared.head.Head.{Head}
 use Rattle.scgi_reader.specs.declared.head.Head.TheVariants as Heard
 use Rattle.scgi_reader.specs.declared.head.WholeHead.{WholeHead}
-use Rattle.scgi_reader.specs.Scgi.{length_at, begins_no_number, head_length, head_start, with_body, by_length, by_fields, by_byte, by_head, by_size, behind, head_of, scgi_of}
+use Rattle.scgi_reader.specs.Scgi.{length_at, begins_no_number, head_length, head_start, with_body, by_length, by_fields, by_byte, by_head, by_size, behind, head_of}
 use Rattle.scgi_reader.specs.ScgiLaws.{HeadsStay, ReadingsStay, RequestsAreWithin, IsAlone}
 
 -- ---- the digits at the front

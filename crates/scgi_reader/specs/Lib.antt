@@ -1,4 +1,5 @@
 pub mod Pairs
+pub mod Names
 pub mod Numbers
 pub mod Scgi
 pub mod View

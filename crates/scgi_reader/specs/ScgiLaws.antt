@@ -1,6 +1,5 @@
 -- What is read of a request stays, whatever bytes follow.
 use Rattle.std.specs.Prelude.{ℕ, List, ◌++◌, ◌≡◌, ◌≢◌, ◌≤◌, length}
-use Rattle.host_base.specs.declared.fields.Field.{Field}
 use Rattle.host_base.specs.declared.limits.Limits.{Limits}
 use Rattle.scgi_reader.specs.declared.head.Head.TheVariants as Heard
 use Rattle.scgi_reader.specs.declared.reader.ScgiStep.TheVariants.{More, Whole}

@@ -29,16 +29,21 @@ pub struct WholeHead {
     pub len: u64,
 }
 
-fn by_fields(limits: &Limits, used: usize, fields: Option<Fields>) -> Head
-    ensures { result ≡ by_fields limits.now used fields }
+fn by_fields(
+    alloc: Global,
+    limits: &Limits,
+    used: usize,
+    fields: Option<Fields>,
+) -> Result<Head, NoMemory>
+    ensures { IfOk result (λ head. head ≡ by_fields limits.now used fields) }
 {
     let Some(fields) = fields else {
-        return Head::Bad(Cause::BadScgi);
+        return Ok(Head::Bad(Cause::BadScgi));
     };
-    match body_length(fields.as_slice()) {
-        Some(len) if len > limits.body => Head::Bad(Cause::BodyTooLong),
-        Some(len) => Head::Whole(WholeHead { fields, used, len }),
-        None => Head::Bad(Cause::BadScgi),
+    match body_length(alloc, fields.as_slice())? {
+        Some(len) if len > limits.body => Ok(Head::Bad(Cause::BodyTooLong)),
+        Some(len) => Ok(Head::Whole(WholeHead { fields, used, len })),
+        None => Ok(Head::Bad(Cause::BadScgi)),
     }
 }
 
@@ -61,7 +66,7 @@ fn by_comma(
     ensures { IfOk result (λ head. head ≡ by_byte limits.now start n rest.now (Some 44)) }
 {
     let fields = pairs_in(alloc, &rest[..n])?;
-    Ok(by_fields(limits, start + n + 1, fields))
+    by_fields(alloc, limits, start + n + 1, fields)
 }
 
 // By the bytes behind the colon, which stands before `start`, and of which n and a comma are the head.

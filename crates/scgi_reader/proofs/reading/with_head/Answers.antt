@@ -1,4 +1,4 @@
-use Rattle.std.proofs.Common.{arith, ◌≤◌, ◌-◌, length, sym, subst}
+use Rattle.std.proofs.Common.{arith, ◌≤◌, ◌-◌, length}
 use Rattle.scgi_reader.proofs.StayLaws.{heads_are_within}
 use Rattle.scgi_reader.proofs.ReadingLaws.{parts_within, whole_is}
 use Rattle.scgi_reader.proofs.reading.with_head.Goals as goal

@@ -1,0 +1,2 @@
+mod SiteLaws
+mod NamedLaws
