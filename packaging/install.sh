@@ -1,5 +1,6 @@
 #!/bin/sh
-# Installs the program, its manual pages and the examples below a prefix, and nothing else, or takes away what it installed:
+# Installs the program, cgihost-run, their manual pages and the examples below a prefix, and nothing else, or takes away what
+# it installed:
 #     packaging/install.sh /usr/local
 #     packaging/install.sh --uninstall /usr/local
 # The program is the one that was built, or the one that CGIHOST names.
@@ -20,11 +21,12 @@ examples=$prefix/share/doc/cgihost/examples
 
 # What was put there is taken away, and the folders that were made for it and hold nothing else.
 if [ $remove = yes ]; then
-    rm -f "$prefix/bin/cgihost" "$prefix/share/man/man1/cgihost.1" "$prefix/share/man/man5/cgihost.toml.5"
-    for example in "$root"/examples/*; do
-        rm -f "$examples/${example##*/}"
+    rm -f "$prefix/bin/cgihost" "$prefix/bin/cgihost-run" "$prefix/share/man/man1/cgihost.1" \
+        "$prefix/share/man/man1/cgihost-run.1" "$prefix/share/man/man5/cgihost.toml.5"
+    (cd "$root/examples" && find . -type f) | while read -r example; do
+        rm -f "$examples/$example"
     done
-    for folder in "$examples" "$prefix/share/doc/cgihost"; do
+    for folder in "$examples/page" "$examples" "$prefix/share/doc/cgihost"; do
         [ ! -d "$folder" ] || rmdir "$folder" 2>/dev/null || echo "install.sh: $folder holds something else, and stays" >&2
     done
     exit 0
@@ -37,10 +39,11 @@ program=${CGIHOST:-$root/crates/cgihost/out/cgihost}
 }
 install -d "$prefix/bin" "$prefix/share/man/man1" "$prefix/share/man/man5" "$examples"
 install -m 755 "$program" "$prefix/bin/cgihost"
-install -m 644 "$root/docs/cgihost.1" "$prefix/share/man/man1/cgihost.1"
+install -m 755 "$root/packaging/cgihost-run" "$prefix/bin/cgihost-run"
+install -m 644 "$root/docs/cgihost.1" "$root/docs/cgihost-run.1" "$prefix/share/man/man1/"
 install -m 644 "$root/docs/cgihost.toml.5" "$prefix/share/man/man5/cgihost.toml.5"
-for example in "$root"/examples/*; do
+(cd "$root/examples" && find . -type f) | while read -r example; do
     mode=644
-    [ ! -x "$example" ] || mode=755
-    install -m "$mode" "$example" "$examples/"
+    [ ! -x "$root/examples/$example" ] || mode=755
+    install -D -m "$mode" "$root/examples/$example" "$examples/$example"
 done

@@ -1,9 +1,10 @@
 #!/usr/bin/env python3
-"""Opens a page in headless Chromium: browser.py CHROMIUM URL PICTURE.
+"""Opens a page in headless Chromium: browser.py CHROMIUM URL PICTURE [PATH..].
 
-The page is examples/live.html. Its lines have to arrive, and a message that is sent from it has to be answered. It ends
-with status 0 and leaves a picture of the page, or says in one line what was wrong. Chromium is spoken to by the DevTools
-protocol over a pipe: messages in JSON, each ended by a NUL.
+The page is examples/live.html or that of examples/page. Its lines have to arrive, a message that is sent from it has to be
+answered, and the paths of the style sheets, scripts and pictures that it took have to be these, in the order of their
+bytes. It ends with status 0 and leaves a picture of the page, or says in one line what was wrong. Chromium is spoken to
+by the DevTools protocol over a pipe: messages in JSON, each ended by a NUL.
 """
 import base64
 import json
@@ -17,7 +18,8 @@ import time
 SECONDS = 60
 FLAGS = ["--headless=new", "--no-sandbox", "--disable-gpu", "--disable-dev-shm-usage", "--no-first-run", "--remote-debugging-pipe"]
 
-# What the page shows once all has come: two lines, and the answer to the message.
+# What the page shows once all has come: two lines, and the answer to the message; and what it took beside itself: style
+# sheets that have rules, scripts, and pictures that have a size.
 SENT = """(async () => {
     const texts = (id) => [...document.querySelectorAll(`#${id} li`)].map((item) => item.textContent);
     const until = async (holds) => { while (!holds()) await new Promise((done) => setTimeout(done, 50)); };
@@ -25,7 +27,11 @@ SENT = """(async () => {
     document.getElementById("text").value = "grüße <b>";
     document.querySelector("#form button").click();
     await until(() => texts("answers").length >= 1);
-    return [texts("lines").slice(0, 2), texts("answers")];
+    await until(() => document.readyState === "complete");
+    const sheets = [...document.styleSheets].filter((sheet) => sheet.href && sheet.cssRules.length > 0).map((sheet) => sheet.href);
+    const pictures = [...document.images].filter((image) => image.naturalWidth > 0).map((image) => image.src);
+    const paths = [...sheets, ...pictures, ...[...document.scripts].map((script) => script.src)].filter((address) => address);
+    return [texts("lines").slice(0, 2), texts("answers"), paths.map((address) => new URL(address).pathname).sort()];
 })()"""
 
 
@@ -86,7 +92,7 @@ class Browser:
                 return told["result"]
 
 
-def look(browser, url, picture):
+def look(browser, url, picture, beside):
     target = browser.ask("Target.createTarget", url=url)["targetId"]
     session = browser.ask("Target.attachToTarget", targetId=target, flatten=True)["sessionId"]
     while True:
@@ -99,23 +105,25 @@ def look(browser, url, picture):
     shown = browser.ask("Runtime.evaluate", session, expression=SENT, awaitPromise=True, returnByValue=True)
     if "exceptionDetails" in shown:
         sys.exit(f"browser.py: {shown['exceptionDetails']}")
-    lines, answers = shown["result"]["value"]
+    lines, answers, paths = shown["result"]["value"]
     for number, line in enumerate(lines, 1):
         if not line.startswith(f"line {number}, "):
             sys.exit(f"browser.py: line {number} is {line!r}")
     if answers != ["you said: grüße <b>"]:
         sys.exit(f"browser.py: the answers are {answers!r}")
+    if paths != beside:
+        sys.exit(f"browser.py: beside the page it took {paths!r}")
     data = browser.ask("Page.captureScreenshot", session, format="png")["data"]
     with open(picture, "wb") as file:
         file.write(base64.b64decode(data))
 
 
 def main():
-    program, url, picture = sys.argv[1:]
+    program, url, picture, *beside = sys.argv[1:]
     with tempfile.TemporaryDirectory(ignore_cleanup_errors=True) as profile:
         browser = Browser(program, profile)
         try:
-            look(browser, url, picture)
+            look(browser, url, picture, beside)
         finally:
             browser.process.kill()
             browser.process.wait()

@@ -19,8 +19,9 @@ printf 'GET /x HTTP/1.1\r\nHost: a\r\nConnection: close\r\n\r\n' >request
 # What may be kept of an output, 16 MiB, and 4 MiB, in KiB.
 most_memory=$(((16 + 4) * 1024))
 
-# Three streams and two pipes, of which a start has both ends for a moment, and the folder that is looked at.
-most_descriptors=8
+# Three streams and two pipes, of which a start has both ends for a moment, and the folder that is looked at; and what
+# each of the three threads waits by, a poll and what ends its wait.
+most_descriptors=14
 
 # The loop, the pump of standard input, and the two of a child.
 most_threads=4
@@ -29,6 +30,7 @@ most_threads=4
 watched() {
     python3 "$watch" seen 60 "$@" <request >out 2>err
     read -r status threads descriptors memory left <seen
+    none_dropped err
 }
 
 run() {

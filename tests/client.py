@@ -314,34 +314,111 @@ def leaves(port):
         await_end(pid, 10)
 
 
-def strays(port, most):
-    """Programs whose connections are reset leave others behind, which hold their output. Once there are so many of these no
-    program is started, and when they have ended one is. One program may run at a time."""
-    left = []
-    try:
-        status = 200
-        while status != 502 and len(left) <= int(most):
+def answers(port, seconds):
+    """A script is started and answers within so many seconds."""
+    end = time.monotonic() + float(seconds)
+    while True:
+        try:
             it = Connection(port)
-            it.send(get("/strays"))
+            it.send(get("/hi"))
+            found = it.reply()
+            it.close()
+        except (Wrong, OSError) as error:
+            found = error
+        if found == (200, b"hi\n"):
+            return
+        check(time.monotonic() < end, f"it is answered with {found} after {seconds} s")
+        time.sleep(0.05)
+
+
+def crowd(port, path, count, status):
+    """So many clients at once, each of which is answered with this status."""
+    held = [Connection(port) for _ in range(int(count))]
+    for it in held:
+        it.send(get(path, "Connection: close\r\n"))
+    for it in held:
+        same("the status", it.head()[0], int(status))
+        it.to_end()
+
+
+def resets(port, path, count, begun=""):
+    """So many clients, 25 at once, which are reset 30 ms after they have asked, or after their replies have begun."""
+    for _ in range(0, int(count), 25):
+        held = [Connection(port) for _ in range(25)]
+        for it in held:
+            it.send(get(path))
+        if begun:
+            for it in held:
+                same("the status", it.head()[0], 200)
+        time.sleep(0.03)
+        for it in held:
+            it.reset()
+
+
+def unread(port, path, count):
+    """So many clients at once of a script that ignores its input, of which more is sent than pipes hold. Half of them are reset
+    once their replies have begun, and the others hear theirs to the end."""
+    held = [Connection(port) for _ in range(int(count))]
+    for it in held:
+        it.send(post(path, 1 << 18, "Connection: close\r\n"))
+        it.socket.settimeout(0.05)
+        try:
+            it.send(bytes(1 << 18))
+        except socket.timeout:
+            pass
+        it.socket.settimeout(SECONDS)
+    for at, it in enumerate(held):
+        same("the status", it.head()[0], 200)
+        if at % 2 == 0:
+            it.reset()
+    for it in held[1::2]:
+        try:
+            it.to_end()
+        except ConnectionResetError:
+            pass
+
+
+def kills(port, server, count):
+    """The programs of so many requests are killed from outside as soon as they are seen, some while they start. Each request
+    is answered all the same."""
+    import threading
+
+    over = threading.Event()
+    found = []
+
+    def kill():
+        while not over.is_set():
+            for thread in os.listdir(f"/proc/{server}/task"):
+                try:
+                    with open(f"/proc/{server}/task/{thread}/children") as children:
+                        for pid in children.read().split():
+                            os.kill(int(pid), signal.SIGKILL)
+                            found.append(pid)
+                except OSError:
+                    pass
+
+    killer = threading.Thread(target=kill)
+    killer.start()
+    try:
+        for _ in range(int(count)):
+            it = Connection(port)
+            it.send(get("/hi", "Connection: close\r\n"))
             status, fields = it.head()
-            if status == 200:
-                left.append(int(it.chunk()))
-                it.reset()
-            else:
-                it.body(fields)
-                it.close()
-        same("the last status", status, 502)
-        same("those that were left", len(left), int(most))
+            check(status in (200, 502), f"the status is {status}")
+            it.to_end()
     finally:
-        for pid in left:
-            os.kill(pid, signal.SIGKILL)
-    end = time.monotonic() + 10
-    while status != 200:
-        check(time.monotonic() < end, f"the status is {status} once they have ended")
-        it = Connection(port)
-        it.send(get("/hi"))
-        status = it.reply()[0]
-        it.close()
+        over.set()
+        killer.join()
+    check(found, "no program was seen")
+
+
+def storm(port, path, count):
+    """So many clients at once, each of which is reset as soon as all have asked."""
+    held = [Connection(port) for _ in range(int(count))]
+    for it in held:
+        it.send(get(path))
+    for it in held:
+        it.reset()
 
 
 def outlives(port):
@@ -516,10 +593,13 @@ def takes_nothing(port):
 
 
 def documents(port):
-    """A folder of documents is not served."""
+    """A file of a folder of documents is served as it is, and what isn't there isn't."""
+    with open("hi", "rb") as file:
+        text = file.read()
     it = Connection(port)
-    it.send(get("/docs/a"))
-    same("its status", it.reply(), (502, b"script could not be started\n"))
+    it.send(get("/docs/hi") + get("/docs/none"))
+    same("a document", it.reply(), (200, text))
+    same("no document", it.reply(), (404, b"no document\n"))
 
 
 def idle_ends(port):
@@ -544,6 +624,22 @@ def descriptors(port, count):
         other.close()
 
 
+def streams(port):
+    """A program has pipes for its input and output, and for its standard error what the server was started with, or nothing."""
+    it = Connection(port)
+    it.send(get("/open"))
+    status, body = it.reply()
+    same("its status", status, 200)
+    for line in body.split(b"\n"):
+        if b" -> " in line:
+            at, to = line.split(b" -> ")
+            number = at.split()[-1]
+            if number in (b"0", b"1"):
+                check(to.startswith(b"pipe:"), f"its descriptor {number} is {to}")
+            else:
+                check(to.endswith((b"/said", b"/dev/null", b"/open")), f"its descriptor {number} is {to}")
+
+
 def under_way(port, what):
     """Requests that are under way when the server is told to end: `stop` ends their programs, `drain` lets them go on. The
     line is written here, to standard output, once they are under way."""
@@ -563,8 +659,8 @@ def under_way(port, what):
 
 
 def over_first(port):
-    """Where one of several loops has a program that runs on, `drain` ends the kept connections of the others at once, and
-    `stop` is heard though those loops are over."""
+    """Where one of several loops has a program that runs on, `drain` ends all kept connections at once, and `stop` is heard
+    though the other loops are over."""
     kept = [Connection(port) for _ in range(16)]
     for it in kept:
         it.send(get("/hi"))
@@ -579,7 +675,7 @@ def over_first(port):
             ended += not it.more()
         except socket.timeout:
             pass
-    check(4 <= ended < 16, f"{ended} of 16 kept connections were ended")
+    same("kept connections that were ended", ended, 16)
     print("stop", flush=True)
     busy.close()
 

@@ -24,9 +24,9 @@ block() {
 # ---- the installation: the program, the pages, the examples, and nothing else
 CGIHOST=$program "$root/packaging/install.sh" "$folder/prefix"
 {
-    echo bin/cgihost
-    (cd "$root/examples" && printf 'share/doc/cgihost/examples/%s\n' *)
-    printf 'share/man/man%s\n' 1/cgihost.1 5/cgihost.toml.5
+    printf 'bin/%s\n' cgihost cgihost-run
+    (cd "$root/examples" && find . -type f | sed 's|^\.|share/doc/cgihost/examples|')
+    printf 'share/man/man%s\n' 1/cgihost.1 1/cgihost-run.1 5/cgihost.toml.5
 } | sort >wanted
 same 'what is installed' "$(cd prefix && find . -type f | sed 's|^\./||' | sort)" "$(cat wanted)"
 same 'the installed program' "$(prefix/bin/cgihost check prefix/share/doc/cgihost/examples/site.toml)" 'ok: 6 scripts'

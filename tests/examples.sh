@@ -16,10 +16,15 @@ on_free_port() {
     "$program" upgrade "$1" | sed "s/^port = .*/port = $port/; s/:8080\"/:$port\"/g" >site
 }
 
-# The program, as a text calls it in a line that waits for its end.
+# The program, as a text calls it in a line that waits for its end. A server before it is waited for by its port, as this may
+# run in a shell below the one whose child it is.
 cgihost() {
     if [ "$1" = serve ]; then
         end_server
+        for _ in $(seq 500); do
+            (exec 5<>"/dev/tcp/127.0.0.1/$port") 2>/dev/null || break
+            sleep 0.02
+        done
         on_free_port "$2" && "$program" serve site "${@:3}"
     else
         "$program" "$@"
@@ -94,8 +99,8 @@ plays_example() {
 }
 
 for example in examples/* "$root/docs/cgihost.1" "$root/README.md"; do
-    # The page is served by the script beside it, and what wants a program of its own is played by recipes.sh.
-    [ "$example" = examples/live.html ] || grep -q 'docs/recipes.md' "$example" || plays_example "$example"
+    # The pages are served by what lies beside them, and what wants a program of its own is played by recipes.sh.
+    [ "$example" = examples/live.html ] || [ -d "$example" ] || grep -q 'docs/recipes.md' "$example" || plays_example "$example"
 done
 
 # ---- what is counted comes as it is counted
@@ -111,6 +116,29 @@ cgihost_beside serve live.toml
 if curl -s -m 30 "http://127.0.0.1:$port/live" | cmp -s - examples/live.html; then ok; else bad 'the page is not the file'; fi
 for path in $(sed -n 's/.* = at("\(.*\)");/\1/p' examples/live.html); do
     if [ "$(curl -s -m 30 -o got -w '%{http_code}' "http://127.0.0.1:$port$path")" = 426 ]; then ok; else bad "the page's $path"; fi
+done
+end_server
+
+# ---- the page of page.toml comes whole with all that it names, each with its type, and its two programs are there
+sed "s|/srv/cgi|$PWD/examples|; s|/srv/page|$PWD/examples/page|" examples/page.toml >page.toml
+port=$(free_port)
+cgihost_beside serve page.toml
+url=http://127.0.0.1:$port
+if curl -s -m 30 "$url/page/" | cmp -s - examples/page/index.html; then ok; else bad 'the page of page.toml is not the file'; fi
+named=$(sed -n 's/.* \(href\|src\)="\([^"]*\)".*/\2/p' examples/page/index.html | sort -u)
+same 'what the page names' "$(tr '\n' ' ' <<<"$named")" '/page/icon.svg /page/page.css /page/page.js '
+for path in $named; do
+    type=$(curl -s -m 30 -o got -w '%{content_type}' "$url$path")
+    case $path in
+        *.css) wanted=text/css ;;
+        *.js) wanted=text/javascript ;;
+        *) wanted=image/svg+xml ;;
+    esac
+    same "the type of $path" "$type" "$wanted"
+    if cmp -s got "examples$path"; then ok; else bad "$path is not the file"; fi
+done
+for path in $(sed -n 's/.*listen("\(.*\)", .*/\1/p' examples/page/page.js); do
+    if [ "$(curl -s -m 30 -o got -w '%{http_code}' "$url$path")" = 426 ]; then ok; else bad "the page's $path"; fi
 done
 end_server
 

@@ -30,7 +30,7 @@ refused() {
     explains "refused: $1" "$small"
 }
 
-# The words end with a status and a line on standard error, and report nothing.
+# The words end with a status and what is said on standard error, and report nothing.
 says() {
     local wanted=$1 line=$2
     shift 2
@@ -280,7 +280,7 @@ fi
 
 # ---- sites and reports
 says 3 'site refused: missing version' explain /dev/null
-says 4 'site file not read' explain none
+says 4 $'none: No such file or directory (os error 2)\ncgihost: site file not read' explain none
 usage='usage: once SITE, serve SITE, check SITE, explain SITE, sample SEED N, upgrade SITE'
 says 2 "$usage" explain
 says 2 "$usage" explain s=/bin/cat

@@ -55,9 +55,26 @@ broken() {
         says 3 "cgihost: site refused: $3" "$command" broken
     done
 }
-for command in serve once check explain upgrade; do
-    says 4 'cgihost: site file not read' "$command" missing.toml
-done
+# .. one that isn't there, a folder and one that is too long: which it is, and the system's reason, stand before the status
+in_page 'cgihost: Ar file'
+unread() {
+    for command in serve once check explain upgrade; do
+        says 4 'cgihost: site file not read' "$command" "$1"
+        same "$command $1" "$(head -n 1 err)" "cgihost: $2"
+        same "the lines of $command $1" "$(wc -l <err)" 2
+    done
+}
+unread missing.toml 'missing.toml: No such file or directory (os error 2)'
+unread "$folder" "$folder: Is a directory (os error 21)"
+head -c 1048577 /dev/zero | tr '\0' '#' >large
+unread large 'large: longer than 1048576 bytes'
+if [ "$(id -u)" != 0 ]; then
+    printf 'version = 1' >mine
+    chmod 0 mine
+    unread mine 'mine: Permission denied (os error 13)'
+else
+    echo 'skipped: a file that may not be read: this is the superuser'
+fi
 broken 'port = "http"' '' 'wrong kind port'
 broken 'port = 65536' '' 'out of range port'
 broken 'prot = 8080' '' 'unknown prot'
@@ -101,6 +118,38 @@ says 5 'cgihost: could not begin' serve site
 refused='cgihost: end what listens there, or set another port in the site file: '
 in_page "$refused"
 if [ "$(head -n 1 err)" = "${refused}127.0.0.1:$port" ]; then ok; else bad "a port in use: said $(cat err)"; fi
+
+# .. an address that is none of this machine's (RFC 5737 section 3), and a port that only the superuser may have
+in_page "cgihost: can't listen on Ar address"
+sed "s/^port = .*/&\nlisten = \"192.0.2.1\"/" site >elsewhere
+says 5 'cgihost: could not begin' serve elsewhere
+same 'an address of another machine' "$(head -n 1 err)" "cgihost: can't listen on 192.0.2.1:$port: Cannot assign requested address (os error 99)"
+same 'the lines of it' "$(wc -l <err)" 2
+if [ "$(id -u)" != 0 ] && [ "$(cat /proc/sys/net/ipv4/ip_unprivileged_port_start 2>/dev/null)" = 1024 ]; then
+    sed 's/^port = .*/port = 80/' site >low
+    says 5 'cgihost: could not begin' serve low
+    same 'a port that may not be had' "$(head -n 1 err)" "cgihost: can't listen on 127.0.0.1:80: Permission denied (os error 13)"
+else
+    echo 'skipped: a port that may not be had: this user may have it'
+fi
+
+# ---- help, wherever it is asked for
+"$program" --help >help
+same 'the help has lines' "$([ "$(wc -l <help)" -gt 20 ] && echo many)" many
+helps() {
+    timeout 60 "$program" "$@" </dev/null >out 2>err
+    same "$*: its status" "$?" 0
+    if cmp -s out help && [ ! -s err ]; then ok; else bad "$*: wrote $(head -n 1 out), said $(cat err)"; fi
+}
+helps -h
+helps help
+for command in serve once check upgrade explain sample help --help --version; do
+    helps "$command" --help
+    helps "$command" -h
+done
+helps serve site --log "$folder/log" --help
+same 'a log where help is asked for' "$(ls log 2>&1 >/dev/null | wc -l)" 1
+helps serve --help --loops 0
 
 # ---- programs that can't be started, and what they print: the client is told, and explain names the program
 answers() {

@@ -33,6 +33,7 @@ kept() {
 # Compares what was written with what is wanted, and the status.
 answers() {
     local name=$1 wanted_status=$2
+    none_dropped err
     if [ "$status" != "$wanted_status" ]; then
         bad "$name: status $status, wanted $wanted_status"
     elif ! cmp -s out wanted; then

@@ -36,9 +36,6 @@ script chatty 'printf "Content-Type: text/plain\n\n%s\n" $$
 while sleep 0.2; do
     echo more
 done'
-script strays 'sleep 100 &
-printf "Content-Type: text/plain\n\n%s\n" $!
-exec sleep 100'
 script outlives 'printf "Content-Type: text/plain\n\n%s\n" $$
 exec >&-
 exec sleep 60'
@@ -53,7 +50,7 @@ site() {
     {
         printf 'version = 2\nport = %s\n\n[limits]\n%s\n\n' "$port" "$1"
         printf '[[host]]\nname = "a.example"\naliases = ["www.a.example", "127.0.0.1"]\n'
-        for name in hi query sum echo slow nap long chatty zeros lingers clock strays outlives signals open; do
+        for name in hi query sum echo slow nap long chatty zeros lingers clock outlives signals open; do
             printf '\n[[host.script]]\npath = "/%s"\nprogram = "%s/%s"\n' "$name" "$folder" "$name"
         done
         printf '\n[[host.documents]]\npath = "/docs"\nroot = "%s"\n' "$folder"
@@ -90,7 +87,8 @@ mkdir late
 late=$!
 
 # ---- it says where it listens, and ordinary clients are answered
-site 'connections = 1024'
+site 'connections = 1024
+children = 256'
 serve
 if [ "$(cat said)" = "cgihost: listening on 127.0.0.1:$port" ]; then ok; else bad "it said $(cat said)"; fi
 url=http://127.0.0.1:$port
@@ -175,19 +173,6 @@ site 'children = 3'
 serve
 plays many 8 3
 end_server
-
-# ---- programs that leave others behind, which hold their output: each keeps a thread of the server's, and with 128 of
-# those a loop starts no program. Once they have ended, the next program finds their threads, and no more wait than behind others.
-if [ -z "$loops" ]; then
-    site 'children = 1'
-    serve
-    plays strays 128
-    sleep 0.5
-    plays kept
-    sleep 0.5
-    if [ "$(entries task)" -le 66 ]; then ok; else bad "what programs left behind: $(entries task) threads are kept"; fi
-    end_server
-fi
 
 # ---- more connections than may be held; and a program that lives on behind its output
 site 'connections = 2'
@@ -274,6 +259,38 @@ site ''
 status=$?
 if [ "$status" = 6 ]; then ok; else bad "the end of standard input: status $status"; fi
 
+# ---- descriptors 0 to 2 that are closed at the start, each alone and together: nothing that is opened takes their place
+without() {
+    local number
+    for number in $1; do
+        eval "exec $number>&-"
+    done
+    exec "$program" "${@:2}"
+}
+printf 'GET /open HTTP/1.1\r\nHost: a.example\r\nConnection: close\r\n\r\n' >request
+for closed in 0 1 2 '0 1' '0 2' '1 2' '0 1 2'; do
+    site ''
+    : >said
+    without "$closed" serve site $loops </dev/null >out 2>said &
+    server=$!
+    plays answers 10
+    plays streams
+    end_server
+    (without "$closed" once site <request >out 2>said)
+    status=$?
+    case $closed in
+        2) if [ "$status" = 0 ] && head -n 1 out | grep -q '^HTTP/1.1 200 OK' && ! grep -Eq '/site|socket|anon_inode' out; then ok; else bad "once without 2: status $status, $(cat out)"; fi ;;
+        *) if [ "$status" = 0 ] && [ ! -s out ] && [ ! -s said ]; then ok; else bad "once without $closed: status $status, $(cat out said)"; fi ;;
+    esac
+    (without "$closed" check site </dev/null >out 2>said)
+    status=$?
+    case $closed in
+        *1*) wanted='7 ' ;;
+        *) wanted='0 ok: 16 scripts' ;;
+    esac
+    same "check without $closed" "$status $(cat out)" "$wanted"
+done
+
 # ---- a port that is taken
 site ''
 serve
@@ -288,8 +305,9 @@ serve
 plays kept
 end_server
 
-# ---- 10,000 requests leave nothing behind
-site 'connections = 1024'
+# ---- 10,000 requests leave nothing behind, once as many programs at once have run as there are threads kept
+site 'connections = 1024
+children = 256'
 serve
 requests() {
     if command -v ab >/dev/null; then
@@ -304,6 +322,7 @@ requests() {
     fi
 }
 url=http://127.0.0.1:$port
+plays crowd /nap 200 200
 requests 1000 64
 requests 1000 64 -k
 sleep 1
@@ -314,8 +333,9 @@ requests 5000 8
 requests 5000 64 -k
 sleep 1
 if [ "$(children)" = 0 ]; then ok; else bad "10,000 requests: $(children) programs are left"; fi
-# The loop, what reads its orders, and so many threads that wait for a program's pipes.
-if [ "$(entries task)" -le 66 ]; then ok; else bad "10,000 requests: $threads threads became $(entries task)"; fi
+# What reads the orders, and each loop with so many threads that wait for a program.
+of=${loops:-1}
+if [ "$(entries task)" -le $((65 * ${of##* } + 1)) ]; then ok; else bad "10,000 requests: $threads threads became $(entries task)"; fi
 if [ "$(entries fd)" -le "$descriptors" ]; then ok; else bad "10,000 requests: $descriptors descriptors became $(entries fd)"; fi
 if [ "$(memory)" -le $((memory + 1024)) ]; then ok; else bad "10,000 requests: $memory KiB became $(memory)"; fi
 rests 'after 10,000 requests'

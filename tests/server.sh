@@ -23,11 +23,19 @@ it.bind(("127.0.0.1", 0))
 print(it.getsockname()[1])'
 }
 
-# Ends the server, if one runs.
+# Ends the server, if one runs: by its order, where it hears one, so that it says what it dropped.
 end_server() {
+    local _
     if [ -n "$server" ]; then
+        if (echo stop >&9); then
+            for _ in $(seq 100); do
+                kill -0 "$server" || break
+                sleep 0.02
+            done
+        fi
         kill -KILL "$server"
         wait "$server"
+        none_dropped said
     fi 2>/dev/null
     exec 9>&-
     server=
@@ -70,6 +78,7 @@ ends() {
     server=
     exec 9>&-
     if [ "$status" = "$wanted" ]; then ok; else bad "$name: status $status, said $(cat said)"; fi
+    none_dropped said
 }
 
 # Plays a case of the client's.
@@ -88,7 +97,7 @@ entries() {
 
 # The server's own children, running or not waited for.
 children() {
-    cat /proc/"$server"/task/*/children | tr ' ' '\n' | grep -c .
+    cat /proc/"$server"/task/*/children 2>/dev/null | tr ' ' '\n' | grep -c .
 }
 
 # How often its threads have been switched to, and the hundredths of a second that they have run.

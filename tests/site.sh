@@ -42,7 +42,7 @@ refused() {
 }
 
 # ---- the examples, as they stand and once they are written in version 2
-for example in small:2 site:6 live:3 hosts:3; do
+for example in small:2 site:6 live:3 hosts:3 page:3; do
     name=${example%:*}
     count=${example#*:}
     reports "ok: $count scripts" check "$root/examples/$name.toml"
@@ -92,21 +92,26 @@ refused "version = 2\nname = \"a\"$host" 'unknown name'
 refused "version = 2$host${host/\"a\"/\"A\"}" 'double host A'
 refused "version = 2$host[[host]]\nname = \"b\"\n" 'missing host[1].script'
 
-# ---- files that can't be read
-says 4 'site file not read' check none
-says 4 'site file not read' check .
-says 4 'site file not read' upgrade "$folder"
+# ---- files that can't be read: each is named, with the reason
+unread() {
+    says 4 "$1"$'\ncgihost: site file not read' "${@:2}"
+}
+unread 'none: No such file or directory (os error 2)' check none
+unread 'none/site: No such file or directory (os error 2)' upgrade none/site
+unread '.: Is a directory (os error 21)' check .
+unread "$folder: Is a directory (os error 21)" upgrade "$folder"
+unread 'a\x0Ab: No such file or directory (os error 2)' check $'a\nb'
 says 3 'site refused: missing version' check /dev/null
 head -c 2097152 /dev/zero | tr '\0' '#' >site
-says 4 'site file not read' check site
+unread 'site: longer than 1048576 bytes' check site
 # The longest file that is read, and one byte more.
 { printf "version = 1$script#"; head -c 1048576 /dev/zero | tr '\0' '#'; } | head -c 1048576 >site
 reports 'ok: 1 scripts' check site
 printf '#' >>site
-says 4 'site file not read' check site
+unread 'site: longer than 1048576 bytes' check site
 if [ "$(id -u)" != 0 ]; then
     chmod 0 site
-    says 4 'site file not read' check site
+    unread 'site: Permission denied (os error 13)' check site
     rm -f site
 fi
 

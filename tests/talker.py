@@ -253,6 +253,23 @@ def rounds(port, sockets, count):
             it.hears(b"%d %d" % (number, at))
 
 
+def come_and_go(port, path, count):
+    """So many talks at once of a script that says a line and goes on. They go by a reset, by their end and by a close frame."""
+    talks = [Talk(port, path) for _ in range(int(count))]
+    for it in talks:
+        it.hears(b"first")
+    for at, it in enumerate(talks):
+        if at % 3 == 0:
+            it.reset()
+        elif at % 3 == 1:
+            it.close()
+        else:
+            it.send(frame(CLOSE, struct.pack(">H", 1000)))
+    for it in talks[2::3]:
+        it.to_end()
+        it.close()
+
+
 def at_stop(port):
     """A talk ends with the server. The order is written here once the talk is under way."""
     it = Talk(port, "/pid")

@@ -4,12 +4,17 @@
 # many threads as there are clients: small static programs a second for 1, 8 and 64 clients, on a new connection each and
 # on kept ones; MB/s of replies of 8 MiB, and of 1 MiB sent and echoed; how late the lines of a program are at the client
 # once its reply has begun; and messages a second to /bin/cat and back, over 1 and 50 WebSockets, beside websocketd where
-# that is installed.
+# that is installed. A second table, in the same run, has as many busy processes as processors beside, which are started and
+# ended here, and nothing goes before them: small programs and scripts of sh for 8 and 64 clients, one client on a kept
+# connection, and WebSockets a second from their handshake to the first message there and back, beside bare starts. At last
+# stands what processor time a server takes by itself while 64 programs live on behind their output.
 #
 # The aims: 1.4 times lighttpd with one loop and 1.8 with four, in the mean of the six rows of small programs, which is printed
 # behind them (single rows miss them: with one client the bare loop itself, which has no network, makes 1.6 to 1.7 times as
 # many as lighttpd); 0.75 of the bare loop for 8 clients on kept connections with four; 0.5 of the bare copy for uploads; 2 ms
-# for a line; as many messages over one WebSocket as websocketd. The least server says how much of an aim there is to be had:
+# for a line; as many messages over one WebSocket as websocketd. For 8 and 64 clients 1.6 times lighttpd with one loop, idle and
+# busy, 1.4 for scripts of sh, and with four loops not less; as many WebSockets as half of the bare starts; one hundredth of a
+# processor for 64 programs that live on. The least server says how much of an aim there is to be had:
 # it has a thread for each of 64 connections, which does nothing but accept, read, spawn, read, wait and write, and checks
 # nothing. A number of a busy machine says little. Each is measured for SECONDS_EACH seconds (3), one after the other, in
 # ROUNDS rounds (3), of which the median counts.
@@ -192,6 +197,65 @@ int main(int count, char **words) {
     for (;;) pause();
 }
 END
+# The client of new WebSockets: THREADS threads each make one after the other at PORT for SECONDS seconds, and break it off once
+# its first message came back. It prints how many there were a second.
+cat >setups.c <<'END'
+#include <arpa/inet.h>
+#include <netinet/tcp.h>
+#include <pthread.h>
+#include <stdio.h>
+#include <stdlib.h>
+#include <string.h>
+#include <sys/socket.h>
+#include <time.h>
+#include <unistd.h>
+static const char asked[] =
+    "GET /cat HTTP/1.1\r\nHost: 127.0.0.1\r\nUpgrade: websocket\r\nConnection: Upgrade\r\n"
+    "Sec-WebSocket-Version: 13\r\nSec-WebSocket-Key: dGhlIHNhbXBsZSBub25jZQ==\r\n\r\n"
+    "\x81\x8f\0\0\0\0fifteen letters";
+static struct sockaddr_in to;
+static double end;
+static long total, failed;
+static double now(void) {
+    struct timespec it;
+    clock_gettime(CLOCK_MONOTONIC, &it);
+    return it.tv_sec + it.tv_nsec / 1e9;
+}
+static int once(void) {
+    char got[4096];
+    int one = 1, it = socket(AF_INET, SOCK_STREAM, 0);
+    long length = 0, more = 1;
+    struct linger broken = {1, 0};
+    struct timeval most = {20, 0};
+    setsockopt(it, IPPROTO_TCP, TCP_NODELAY, &one, sizeof one);
+    setsockopt(it, SOL_SOCKET, SO_RCVTIMEO, &most, sizeof most);
+    if (connect(it, (struct sockaddr *)&to, sizeof to) || write(it, asked, sizeof asked - 1) < 0) more = 0;
+    // What comes last is a frame with the text.
+    while (more > 0 && !(length > 15 && !memcmp(got + length - 15, "fifteen letters", 15)))
+        if ((more = read(it, got + length, sizeof got - length)) > 0) length += more;
+    setsockopt(it, SOL_SOCKET, SO_LINGER, &broken, sizeof broken);
+    close(it);
+    return more > 0;
+}
+static void *many(void *none) {
+    while (now() < end)
+        if (once()) __atomic_fetch_add(&total, 1, __ATOMIC_SEQ_CST);
+        else __atomic_fetch_add(&failed, 1, __ATOMIC_SEQ_CST);
+    return none;
+}
+int main(int count, char **words) {
+    int threads = atoi(words[2]);
+    double seconds = atof(words[3]);
+    pthread_t all[64];
+    (void)count;
+    to.sin_family = AF_INET, to.sin_port = htons(atoi(words[1])), to.sin_addr.s_addr = htonl(INADDR_LOOPBACK);
+    end = now() + seconds;
+    for (int at = 0; at < threads; at++) pthread_create(&all[at], NULL, many, NULL);
+    for (int at = 0; at < threads; at++) pthread_join(all[at], NULL);
+    printf("%.1f\n", total / seconds);
+    if (failed) fprintf(stderr, "serve.sh: %ld new WebSockets failed\n", failed);
+}
+END
 # The WebSocket client: over SOCKETS sockets to PORT, each with one message of 15 bytes under way, for SECONDS seconds. It
 # prints how many messages came back a second.
 cat >talk.c <<'END'
@@ -257,6 +321,11 @@ done
 cc -O2 -w -pthread -o bare bare.c
 cc -O2 -w -pthread -o least least.c
 cc -O2 -w -o talk talk.c
+cc -O2 -w -pthread -o setups setups.c
+script cgi/shell 'printf "Content-Type: text/plain\n\nhi\n"'
+script lingers 'printf "Content-Type: text/plain\n\nhi\n"
+exec >&-
+exec sleep 50'
 cat >clock <<'END'
 #!/usr/bin/env python3
 import sys, time
@@ -279,25 +348,27 @@ chrt -f -p 10 $$ >/dev/null 2>&1 || true
 # ---- the servers
 {
     port=$(free_port)
-    printf 'version = 1\nport = %s\n\n[limits]\nconnections = 1024\nchildren = 256\n' "$port"
-    for name in small large echo; do
+    printf 'version = 1\nport = %s\n\n[limits]\nconnections = 1024\nchildren = 256\nlinger_ticks = 600\n' "$port"
+    for name in small large echo shell; do
         printf '\n[[script]]\npath = "/%s"\nprogram = "%s/cgi/%s"\n' "$name" "$folder" "$name"
     done
-    printf '\n[[script]]\npath = "/clock"\nprogram = "%s/clock"\n' "$folder"
+    for name in clock lingers; do
+        printf '\n[[script]]\npath = "/%s"\nprogram = "%s/%s"\n' "$name" "$folder" "$name"
+    done
     printf '\n[[script]]\npath = "/cat"\nprogram = "/bin/cat"\nkind = "websocket"\n'
 } >site
 light=$(free_port)
 other=
 least=$(free_port)
-./least "$least" "$folder/cgi/small" &
-leasts=$!
+leasts=
+busy=
 {
     printf 'server.document-root = "%s/cgi"\nserver.bind = "127.0.0.1"\nserver.port = %s\n' "$folder" "$light"
     printf 'server.modules = ("mod_cgi")\ncgi.assign = ("" => "")\nserver.max-keep-alive-requests = 1000000\n'
     printf 'server.upload-dirs = ("%s")\nserver.errorlog = "%s/light.log"\n' "$folder" "$folder"
 } >light.conf
 talked=
-trap 'end_server; kill $leasts $other $talked 2>/dev/null; rm -rf "$folder"' EXIT
+trap 'end_server; kill $leasts $other $talked $busy 2>/dev/null; rm -rf "$folder"' EXIT
 [ -n "$lighttpd" ] || echo 'serve.sh: there is no lighttpd'
 
 # Starts lighttpd anew, where it is installed: it forks for each program, which takes longer once it has held large bodies.
@@ -307,6 +378,12 @@ start_lighttpd() {
     "$lighttpd" -D -f light.conf >light.said 2>&1 &
     other=$!
     sleep 0.3
+}
+
+start_least() {
+    [ -z "$leasts" ] || { kill "$leasts"; wait "$leasts"; } 2>/dev/null
+    ./least "$least" "$folder/cgi/small" &
+    leasts=$!
 }
 talks=$(free_port)
 if command -v websocketd >/dev/null; then
@@ -348,11 +425,39 @@ row() {
         -v least="$(median <least.times)" -v scale="$scale" -v unit="$unit" 'BEGIN {
         printf "%-44s %8.0f %s, lighttpd %8.0f (%5.2f), bare %8.0f (%5.2f)", name, ours * scale, unit,
             theirs * scale, theirs ? ours / theirs : 0, bare * scale, bare ? ours / bare : 0
-        if (least) {
-            printf ", least %8.0f (%5.2f; itself %5.2f of lighttpd)", least, ours / least, theirs ? least / theirs : 0
-            if (theirs) print ours / theirs >>"means"
-        }
+        if (least) printf ", least %8.0f (%5.2f; itself %5.2f of lighttpd)", least, ours / least, theirs ? least / theirs : 0
+        if (theirs) print ours / theirs >>"means"
         print ""
+    }'
+}
+
+# The mean of the rows behind the last one.
+mean() {
+    [ ! -s means ] || awk -v name="$1" '{ sum += $1 } END { printf "%s: %.2f of lighttpd\n", name, sum / NR }' means
+    rm -f means
+}
+
+# Rows of a program for 8 and 64 clients.
+rows_of() {
+    local name=$1 path=$2 clients
+    rm -f means
+    for clients in 8 64; do
+        row "$name, $clients clients, new connections" "$clients" "$path" 0 1 '/s' -H 'Connection: close'
+        row "$name, $clients clients, kept connections" "$clients" "$path" 0 1 '/s'
+    done
+    mean "$name, mean of these four"
+}
+
+# A row of WebSockets that are made, by eight clients at once, beside bare starts of their program.
+row_of_setups() {
+    local name=$1 _
+    rm -f ours theirs
+    for _ in $(seq "$rounds"); do
+        ./setups "$port" 8 "$seconds" >>ours
+        ./bare 8 "$seconds" /bin/cat 0 >>theirs
+    done
+    awk -v name="$name" -v ours="$(median <ours)" -v theirs="$(median <theirs)" 'BEGIN {
+        printf "%-44s %8.0f /s, bare starts %8.0f (%5.2f)\n", name, ours, theirs, theirs ? ours / theirs : 0
     }'
 }
 
@@ -376,15 +481,16 @@ measured() {
     shift
     rm -f means
     start_lighttpd
+    start_least
     start "$@"
     [ "$failed" = 0 ] || return
     for clients in 1 8 64; do
         row "$loops, $clients clients, new connections" "$clients" small 0 1 '/s' -H 'Connection: close'
         row "$loops, $clients clients, kept connections" "$clients" small 0 1 '/s'
     done
-    if [ -s means ]; then
-        awk -v loops="$loops" '{ sum += $1 } END { printf "%s, mean of these six: %.2f of lighttpd\n", loops, sum / NR }' means
-    fi
+    mean "$loops, mean of these six"
+    rows_of "$loops, sh" shell
+    row_of_setups "$loops, new WebSockets"
     for clients in 1 8; do
         row "$loops, $clients clients, replies of 8 MiB" "$clients" large 0 8.388608 'MB/s'
         row "$loops, $clients clients, 1 MiB echoed" "$clients" echo 1048576 1.048576 'MB/s' -s post.lua
@@ -400,10 +506,58 @@ print("lines of a begun reply: half within %.2f ms, nine of ten within %.2f ms (
     end_server
 }
 
+# The rows of a server with so many loops beside busy processes.
+measured_beside() {
+    local loops="busy, $1" _
+    shift
+    start_lighttpd
+    start_least
+    start "$@"
+    [ "$failed" = 0 ] || return
+    for _ in $(seq "$(nproc)"); do
+        sh -c 'while :; do :; done' &
+        busy="$busy $!"
+    done
+    row "$loops, 1 client, kept connections" 1 small 0 1 '/s'
+    rows_of "$loops" small
+    rows_of "$loops, sh" shell
+    row_of_setups "$loops, new WebSockets"
+    # shellcheck disable=SC2086
+    { kill $busy; wait $busy; } 2>/dev/null
+    busy=
+    end_server
+}
+
+# The processor time that a server takes by itself, in hundredths of a processor over ten seconds.
+by_itself() {
+    local begun
+    begun=$(ran)
+    sleep 10
+    echo "$begun $(ran)" | awk -v each="$(getconf CLK_TCK)" '{ printf "%.2f", ($2 - $1) / each * 10 }'
+}
+
+# .. without a program, and with 64 that live on behind their output.
+measured_lingering() {
+    local loops=$1 alone
+    shift
+    start "$@"
+    [ "$failed" = 0 ] || return
+    alone=$(by_itself)
+    python3 "$client" crowd "$port" /lingers 64 200 || return
+    sleep 1
+    echo "$loops, $(children) programs that live on: $(by_itself) hundredths of a processor, $alone with none"
+    end_server
+}
+
 echo "load before: $(cut -d' ' -f1-3 /proc/loadavg), $(nproc) processors"
+four=
+if "$program" serve site --loops 4 --turns 1 </dev/null >tried 2>&1 || [ $? = 6 ]; then four=yes; fi
 measured 'one loop'
-if "$program" serve site --loops 4 --turns 1 </dev/null >tried 2>&1 || [ $? = 6 ]; then
-    measured 'four loops' --loops 4
-fi
+[ -z "$four" ] || measured 'four loops' --loops 4
+chrt -o -p 0 $$ >/dev/null 2>&1 || true
+measured_beside 'one loop'
+[ -z "$four" ] || measured_beside 'four loops' --loops 4
+measured_lingering 'one loop'
+[ -z "$four" ] || measured_lingering 'four loops' --loops 4
 echo "load behind: $(cut -d' ' -f1-3 /proc/loadavg)"
 [ "$failed" = 0 ]

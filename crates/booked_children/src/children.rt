@@ -58,7 +58,7 @@ impl<S: Spawner + Drop, L: Ledger, R: Wait + Drop> BookedChildren<S, L, R> {
     ghost use Rattle.std.specs.Prelude.{◌≡◌, ◌+◌, ◌≤◌, ◌<◌, [], true, ◌==◌, IfSome, IsNone, vec_len, count_by};
     ghost use Rattle.host_base.specs.Outsides.{Rose};
     ghost use Rattle.host_trace.specs.Told as told;
-    ghost use Rattle.child_edge.specs.Rows.{OneSays, Each, IsQuiet, kept, is_kept, runs};
+    ghost use Rattle.child_edge.specs.Rows.{OneSays, Each, IsQuiet, AreEnded, kept, is_kept, runs};
     ghost use Rattle.booked_children.specs.Booked.{Begins, ChildrenDo};
 
     /// Children of which none was started, with one part of the ledger.
@@ -87,22 +87,23 @@ impl<S: Spawner + Drop, L: Ledger, R: Wait + Drop> BookedChildren<S, L, R> {
         }
     }
 
-    /// Starts child k of connection c, where the book has a place for it. Want of memory is told as NoRoom of the
-    /// connection, and then `fail` is to tell that the child was not started.
+    /// Hands the start of child k of connection c over, where the book has a place for it: `poll` then tells what became
+    /// of it. Else it answers why not. Want of memory is told as NoRoom of the connection, and then `fail` is to tell
+    /// that the child was not started.
     #[tactic(auto, using(crate::proofs::Matches::have_same, crate::proofs::Matches::have_kept, crate::proofs::Matches::have_more, crate::proofs::Sounds::each_all, crate::proofs::Sounds::all_each))]
-    pub fn begin(&mut self, k: u64, c: u64, launch: &Launch) -> Event
+    pub fn begin(&mut self, k: u64, c: u64, launch: &Launch) -> Option<Event>
         ensures begins { Begins S.Kid.tells k c launch.now result (record { rows = self.old.set.rows.items; room = self.old.set.cap; tried = self.old.set.counts }) (record { rows = self.new.set.rows.items; room = self.new.set.cap; tried = self.new.set.counts }) }
         ensures room { self.new.set.cap ≡ self.old.set.cap }
         ensures faults { self.old.faults ≤ self.new.faults }
         ensures full_books { self.old.full ≤ self.new.full }
-        ensures failure { told.is_failure result ≡ true → Rose self.old.faults self.new.faults }
-        ensures full { told.is_full_book result ≡ true → Rose self.old.full self.new.full }
+        ensures failure { IfSome result (λ event. told.is_failure event ≡ true → Rose self.old.faults self.new.faults) }
+        ensures full { IfSome result (λ event. told.is_full_book event ≡ true → Rose self.old.full self.new.full) }
     {
         if self.tickets.reserve(1).is_err() {
-            return Event::NoRoom { c };
+            return Some(Event::NoRoom { c });
         }
         if !self.set.has_room() {
-            return self.fail(k);
+            return Some(self.fail(k));
         }
         let BookedChildren {
             rt,
@@ -114,15 +115,15 @@ impl<S: Spawner + Drop, L: Ledger, R: Wait + Drop> BookedChildren<S, L, R> {
             faults,
         } = self;
         match tickets::admit(rt, &**book, share) {
-            Admit::Full(seen) => refuse(full, k, seen),
+            Admit::Full(seen) => Some(refuse(full, k, seen)),
             Admit::Granted(ticket) => match set.start(k, c, launch) {
                 Ok(()) => {
                     tickets.push_reserved(Held::new(k, ticket));
-                    Event::Started { k }
+                    None
                 }
                 Err(fault) => {
                     tickets::give_back(rt, &**book, share, ticket);
-                    unstarted(faults, k, c, fault)
+                    Some(unstarted(faults, k, c, fault))
                 }
             },
         }
@@ -212,9 +213,10 @@ impl<S: Spawner + Drop, L: Ledger, R: Wait + Drop> BookedChildren<S, L, R> {
         (self.faults, self.full.count())
     }
 
-    /// Ends every child and spends all tickets.
+    /// Ends every child, also those that are being started, and spends all tickets.
     #[tactic(auto, using(crate::proofs::Sounds::each_none, crate::proofs::Matches::have_none))]
     pub fn end_all(&mut self)
+        ensures ended { AreEnded S.Kid.tells self.old.set.rows.items }
         ensures none_kept { self.new.set.rows.items ≡ [] }
         ensures none_held { self.new.tickets.items ≡ [] }
         ensures counts { (self.new.faults ≡ self.old.faults) × (self.new.full ≡ self.old.full) }
@@ -232,8 +234,9 @@ impl<S: Spawner + Drop, L: Ledger, R: Wait + Drop> BookedChildren<S, L, R> {
         tickets::reap_all(rt, &**book, share, tickets, set);
     }
 
-    /// Ends every child, spends all tickets, and gives the part of the ledger back.
+    /// Ends every child, also those that are being started, spends all tickets, and gives the part of the ledger back.
     pub fn end(self) -> Share<L>
+        ensures ended { AreEnded S.Kid.tells self.set.rows.items }
         ensures one_part { result.parts ≡ 1 }
         ensures none { result.amount ≡ 0 }
     {

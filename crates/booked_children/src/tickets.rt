@@ -85,7 +85,7 @@ fn reap<L: Ledger, R: Wait>(
     give_back(rt, book, share, ticket);
 }
 
-/// Spends the ticket of a child, where the event is that it exited.
+/// Spends the ticket of a child, where the event is that it exited or was not started.
 pub(crate) fn settle<L: Ledger, R: Wait>(
     rt: &R,
     book: &Mutex<Book<L>>,
@@ -100,7 +100,7 @@ pub(crate) fn settle<L: Ledger, R: Wait>(
     ensures parts { share.new.parts ≡ share.old.parts }
 {
     match event {
-        Event::Exited { k } => reap(rt, book, share, tickets, *k),
+        Event::Exited { k } | Event::StartFailed { k } => { reap(rt, book, share, tickets, *k) }
         _ => {}
     }
 }

@@ -1,5 +1,6 @@
 -- With which number the program ends, and what it says on standard error.
 use Rattle.std.specs.Prelude.{ℕ, List, [], ◌++◌, codes}
+use Rattle.std.specs.Fmt.{decimal}
 use Rattle.shown_text.specs.Shown.{shown}
 use Rattle.site_file.specs.declared.fault.SiteFault.{SiteFault}
 use Rattle.site_file.specs.declared.fault.SiteFault.TheVariants.{NotToml, Missing, WrongKind, OutOfRange, Unknown, DoubleHost, DoubleScript, NoMemory as NoSiteMemory}
@@ -37,3 +38,7 @@ line_of WorldRefused = codes "cgihost: could not begin"
 line_of Spent = codes "cgihost: turns spent"
 line_of ReportFault = codes "cgihost: report not written"
 line_of NoMemory = codes "cgihost: out of memory"
+
+-- the line on standard error for as many events that didn't fit, where any was dropped
+abbrev pub dropped_line : ℕ → List ℕ
+dropped_line count = codes "cgihost: events dropped: " ++ decimal count

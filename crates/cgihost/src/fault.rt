@@ -1,6 +1,6 @@
 // What the program says of a status, and the number that it ends with.
 ghost use Rattle.std.specs.Prelude.{◌≡◌, Some};
-ghost use Rattle.cgihost.specs.StatusLines.{number_of as number, line_of, refusal_of};
+ghost use Rattle.cgihost.specs.StatusLines.{number_of as number, line_of, dropped_line, refusal_of};
 
 use host_run::Status;
 use shown_text::Shown;
@@ -26,6 +26,18 @@ pub fn number_of(status: &Status) -> u8
 /// The line on standard error for a status; empty where the work was done.
 #[derive(Clone, Copy)]
 pub struct FaultLine<'s>(pub &'s Status);
+
+/// The line on standard error for as many events that didn't fit.
+#[derive(Clone, Copy)]
+pub struct DroppedLine(pub u64);
+
+impl fmt::Display for DroppedLine {
+    ghost output = { λ line. Some (dropped_line line.0) };
+
+    fn fmt<W: fmt::Write>(&self, f: &mut fmt::Formatter<W>) -> fmt::Result {
+        write!(f, "cgihost: events dropped: {}", self.0)
+    }
+}
 
 // What a site file was refused for.
 #[derive(Clone, Copy)]

@@ -2,11 +2,12 @@
 ghost use Rattle.std.specs.Prelude.{◌≡◌, ◌+◌, take, IfOk, IfSome};
 
 use host_base::{SiteStore, StoreFault};
+use shown_text::Shown;
 use std::alloc::Global;
 use std::fs::File;
-use std::io;
 use std::io::{ErrorKind, Read};
 use std::rt::Files;
+use std::{fmt, io};
 
 /// The longest site file that is read.
 const LONGEST: u64 = 1_048_576;
@@ -17,6 +18,32 @@ pub struct FileStore<R> {
     rt: R,
     alloc: Global,
     faults: u64,
+}
+
+// Why a file was not read.
+#[derive(Clone, Copy)]
+enum Unread<'s> {
+    Failed(&'s io::Error),
+    TooLong,
+}
+
+// Which file was not read, and why.
+#[derive(Clone, Copy)]
+struct UnreadLine<'n, 's>(&'n str, Unread<'s>);
+
+impl fmt::Display for Unread<'_> {
+    fn fmt<W: fmt::Write>(&self, f: &mut fmt::Formatter<W>) -> fmt::Result {
+        match self {
+            Unread::Failed(reason) => write!(f, "{}", reason),
+            Unread::TooLong => write!(f, "longer than {} bytes", LONGEST),
+        }
+    }
+}
+
+impl fmt::Display for UnreadLine<'_, '_> {
+    fn fmt<W: fmt::Write>(&self, f: &mut fmt::Formatter<W>) -> fmt::Result {
+        write!(f, "cgihost: {}: {}", Shown(self.0), self.1)
+    }
 }
 
 impl<R> FileStore<R> {
@@ -40,7 +67,7 @@ fn front_of<F: Read + Drop>(alloc: Global, file: F) -> io::Result<Vec<u8>>
     Ok(bytes)
 }
 
-impl<R: Files> SiteStore for FileStore<R> {
+impl<R: Files + Eprint> SiteStore for FileStore<R> {
     ghost use Rattle.std.specs.Prelude.{◌≡◌, ◌≤◌, None, IfOk, OnOk, vec_len};
     ghost use Rattle.host_base.specs.Outsides.{Rose, Holds};
 
@@ -61,7 +88,12 @@ impl<R: Files> SiteStore for FileStore<R> {
             Err(error) if error.kind() == ErrorKind::OutOfMemory => {
                 return Err(StoreFault::NoMemory);
             }
-            _ => {}
+            Err(error) => {
+                let _ = self.rt.eprintln(UnreadLine(name, Unread::Failed(&error)));
+            }
+            Ok(_) => {
+                let _ = self.rt.eprintln(UnreadLine(name, Unread::TooLong));
+            }
         }
         self.faults = self.faults.saturating_add(1);
         Err(StoreFault::Failed)

@@ -1,5 +1,5 @@
 -- One step of a row after another.
-use Rattle.std.proofs.Common.{◌≡◌, ℕ, ◌≤◌, List, [], ◌++◌, refl, sym, ◌∙◌, arith, subst, ap, ◌+◌, take, drop, length, length-drop, ◌-◌, append_assoc}
+use Rattle.std.proofs.Common.{◌≡◌, ℕ, ◌≤◌, List, [], ◌++◌, refl, sym, ◌∙◌, arith, subst, ap, ◌+◌, take, drop, length, length-drop, ◌-◌, append_assoc, inl, inr}
 use Rattle.std.proofs.lemmas.Grind.{common_steps}
 use Rattle.std.proofs.Math.Seq.{take-length}
 use Rattle.std.proofs.lemmas.List.{append-nil, take-append-drop, drop-drop, drop-append-le}
@@ -7,7 +7,7 @@ use Rattle.host_trace.specs.declared.items.Event.{Event}
 use Rattle.host_trace.specs.declared.items.Event.TheVariants.{Accepted, ClientBytes, ClientEof, ClientGone, Wrote, Started, StartFailed, StartFull, ChildBytes, ChildEof, ChildBroken, Took, InputGone, Exited, WsText, WsBinary, WsClosed, WsBad, NoRoom, Tick, Stop}
 use Rattle.child_edge.specs.Kids.{KidTells, SameKid}
 use Rattle.child_edge.specs.declared.row.Row.{Row}
-use Rattle.child_edge.specs.Rows.{IsSound, Stays, SameMarks, Says, IsDue, marks_after, fed_all, handed_by, Feeds, Looked, HasNothing}
+use Rattle.child_edge.specs.Rows.{IsSound, Stays, SameMarks, Says, SaysOn, IsDue, marks_after, fed_all, handed_by, Feeds, Looked, HasNothing}
 
 same_two : (a b d : KidTells) → SameKid a b → SameKid b d → SameKid a d
 same_two a b d g h =
@@ -20,11 +20,12 @@ same_two a b d g h =
       out_looks = omega (arith, g.out_looks, h.out_looks);
       in_looks = omega (arith, g.in_looks, h.in_looks);
       reap_looks = omega (arith, g.reap_looks, h.reap_looks);
+      start_looks = omega (arith, g.start_looks, h.start_looks);
     }
 
 pub same_self : (a : KidTells) → SameKid a a
 same_self a =
-    record { launch = refl; ring = refl; feed = refl; kills = omega arith; faults = omega arith; out_looks = omega arith; in_looks = omega arith; reap_looks = omega arith }
+    record { launch = refl; ring = refl; feed = refl; kills = omega arith; faults = omega arith; out_looks = omega arith; in_looks = omega arith; reap_looks = omega arith; start_looks = omega arith }
 
 module _ {K : Type 0} where
   pub stays_two : (tells : K → KidTells) (ys : List ℕ) (r m s : Row K) → Stays tells [] r m → Stays tells ys m s → Stays tells ys r s
@@ -70,7 +71,7 @@ module _ {K : Type 0} where
   due_two tells r m s (Tick secs) g q h = absurd h
   due_two tells r m s Stop g q h = absurd h
 
-  pub says_two : (tells : K → KidTells) (r m s : Row K) (e : Event) → Stays tells [] r m → SameMarks r m → Says tells m s e → Says tells r s e
+  pub says_two : (tells : K → KidTells) (r m s : Row K) (e : Event) → Stays tells [] r m → SameMarks r m → SaysOn tells m s e → SaysOn tells r s e
   says_two tells r m s e g q h =
       record {
         due = due_two tells r m s e g q h.due;
@@ -80,9 +81,9 @@ module _ {K : Type 0} where
 
   -- a row that says an event is sound
   pub says_row : (tells : K → KidTells) (r s : Row K) (e : Event) → Says tells r s e → IsSound tells s
-  says_row tells r s e h = h.sound
+  says_row tells r s e h = elim h [ inl w ↦ w.sound | inr w ↦ w.1.sound ]
 
-pub looked_says : {K : Type 0} (tells : K → KidTells) (r m s : Row K) (e : Event) → Looked tells r m → Says tells m s e → Says tells r s e
+pub looked_says : {K : Type 0} (tells : K → KidTells) (r m s : Row K) (e : Event) → Looked tells r m → SaysOn tells m s e → SaysOn tells r s e
 looked_says tells r m s e g h = says_two tells r m s e g.stays g.marks h
 
 pub nothing_two : {K : Type 0} (tells : K → KidTells) (r m s : Row K) → Looked tells r m → HasNothing tells m s → HasNothing tells r s

@@ -4,12 +4,13 @@ use Rattle.std.specs.List.{position_or_len}
 use Rattle.host_base.specs.Outsides.{Rose}
 use Rattle.host_base.specs.declared.launch.Launch.{Launch}
 use Rattle.host_trace.specs.declared.items.Event.{Event}
-use Rattle.host_trace.specs.declared.items.Event.TheVariants.{ChildBytes, ChildEof, ChildBroken, Took, InputGone, Exited, NoRoom}
+use Rattle.host_trace.specs.declared.items.Event.TheVariants.{Started, StartFailed, ChildBytes, ChildEof, ChildBroken, Took, InputGone, Exited, NoRoom}
 use Rattle.pipe_pump.specs.declared.ends.PumpEnd.{PumpEnd}
 use Rattle.pipe_pump.specs.declared.ends.PumpEnd.TheVariants.{AtEnd}
 use Rattle.pipe_pump.specs.declared.tap.Tap.{Tap}
 use Rattle.pipe_pump.specs.Rings.{IsRingOf, IsFeedOf, handed_up, standing, is_finished, fed, is_open, places, known_places}
-use Rattle.child_edge.specs.Kids.{KidTells, SameKid, is_failed}
+use Rattle.child_edge.specs.declared.kid.Birth.TheVariants.{Born, Unborn}
+use Rattle.child_edge.specs.Kids.{KidTells, SameKid, IsEnded, is_failed}
 use Rattle.child_edge.specs.declared.row.Row.{Row}
 
 -- how a pump ended, by what the kid told
@@ -25,6 +26,8 @@ pub record IsAsked (a b : KidTells) : Type 0 where
 
 -- what was asked for and what was told of a child; `taken` is how many bytes its input was told to have taken
 pub record Marks : Type 0 where
+  -- Started or StartFailed was told
+  pub started : Bool
   pub wanted : Bool
   pub input_ended : Bool
   pub output_ended : Bool
@@ -35,6 +38,8 @@ pub record Marks : Type 0 where
 
 -- the same after an event of the child
 abbrev pub marks_after : Event → Marks → Marks
+marks_after (Started k) m = record m { started = true }
+marks_after (StartFailed k) m = record m { started = true; wanted = false; input_ended = true; output_ended = true; exited = true }
 marks_after (ChildBytes k bytes) m = record m { wanted = false }
 marks_after (ChildEof k) m = record m { wanted = false; output_ended = true }
 marks_after (ChildBroken k) m = record m { wanted = false; output_ended = true }
@@ -72,7 +77,7 @@ IsEmptied (Some tap) = (is_finished tap ≡ true) × (standing tap ≡ [])
 module _ {K : Type 0} where
   abbrev pub marks : Row K → Marks
   marks r =
-      record { wanted = r.wanted; input_ended = r.input_ended; output_ended = r.output_ended; exited = r.exited; closing = r.closing; taken = r.told }
+      record { started = r.started; wanted = r.wanted; input_ended = r.input_ended; output_ended = r.output_ended; exited = r.exited; closing = r.closing; taken = r.told }
 
   -- the bytes that the child's feeder was given, and those still held for it
   abbrev pub fed_all : Row K → List ℕ
@@ -95,6 +100,8 @@ module _ {K : Type 0} where
     pub out_is : r.out_end ≡ (tells r.kid).out_end
     pub in_is : r.in_end ≡ (tells r.kid).in_end
     pub reaped_is : r.reaped ≡ (tells r.kid).reaped
+    pub born_is : r.started ≡ is_some (tells r.kid).birth
+    pub not_yet : r.started ≡ false → r.exited ≡ false
     pub pair : (tap : Tap) → r.tap ≡ Some tap → IsRingOf (tells r.kid).ring tap
     pub finished : (tap : Tap) → r.tap ≡ Some tap → is_finished tap ≡ is_some r.out_end
     pub gone : r.tap ≡ None → (r.wanted ≡ false) × (r.output_ended ≡ true)
@@ -134,8 +141,8 @@ module _ {K : Type 0} where
     pub told : is_open r.feeder ≡ true → r.put + known_places r.feeder ≤ r.told + places r.feeder
     pub all_told : is_open r.feeder ≡ false → (tells r.kid).in_end ≡ Some AtEnd → r.put ≤ r.told
 
-  -- nothing of this child is to be told, and of all that is open it was asked
-  pub record IsQuiet (tells : K → KidTells) (r s : Row K) : Type 0 where
+  -- nothing of this child, which runs, is to be told, and of all that is open it was asked
+  pub record IsQuietOn (tells : K → KidTells) (r s : Row K) : Type 0 where
     pub stays : Stays tells [] r s
     pub marks : SameMarks r s
     pub asked : IsAsked (tells r.kid) (tells s.kid)
@@ -144,6 +151,13 @@ module _ {K : Type 0} where
     pub no_end : s.wanted ≡ true → (tells s.kid).out_end ≡ None
     pub no_gone : has_gone s ≡ false
     pub no_exit : has_exit s ≡ false
+
+  -- nothing of this child is to be told: it was asked what became of its start, or of all that is open
+  pub record IsQuiet (tells : K → KidTells) (r s : Row K) : Type 0 where
+    pub stays : Stays tells [] r s
+    pub marks : SameMarks r s
+    pub unborn : s.started ≡ false → ((tells s.kid).birth ≡ None) × Rose (tells r.kid).start_looks (tells s.kid).start_looks
+    pub rest : s.started ≡ true → IsQuietOn tells r s
 
   -- the row was not changed but for looks at its rings
   pub record Looked (tells : K → KidTells) (r s : Row K) : Type 0 where
@@ -183,11 +197,33 @@ module _ {K : Type 0} where
   IsDue tells r s (NoRoom c) = (c ≡ r.c) × (r.wanted ≡ true) × Stays tells [] r s
   IsDue tells r s _ = ⊥
 
-  -- the row gave the event
-  pub record Says (tells : K → KidTells) (r s : Row K) (event : Event) : Type 0 where
+  -- the row gave the event of a child that runs
+  pub record SaysOn (tells : K → KidTells) (r s : Row K) (event : Event) : Type 0 where
     pub due : IsDue tells r s event
     pub marks : marks s ≡ marks_after event (marks r)
     pub sound : IsSound tells s
+
+  -- the event tells what became of the child's start
+  abbrev pub IsStartDue : (K → KidTells) → Row K → Row K → Event → Type 0
+  IsStartDue tells r s (Started k) = (k ≡ r.k) × ((tells s.kid).birth ≡ Some Born) × Stays tells [] r s
+  IsStartDue tells r s (StartFailed k) = (k ≡ r.k) × (r.exited ≡ false) × ((tells s.kid).birth ≡ Some Unborn) × Rose (tells r.kid).faults (tells s.kid).faults × Stays tells [] r s
+  IsStartDue tells r s _ = ⊥
+
+  pub record SaysStart (tells : K → KidTells) (r s : Row K) (event : Event) : Type 0 where
+    pub due : IsStartDue tells r s event
+    pub first : r.started ≡ false
+    pub marks : marks s ≡ marks_after event (marks r)
+    pub sound : IsSound tells s
+
+  -- The row gave the event: first of all what became of the start, once, and then all else.
+  abbrev pub Says : (K → KidTells) → Row K → Row K → Event → Type 0
+  Says tells r s event = SaysStart tells r s event ⊎ ((r.started ≡ true) × SaysOn tells r s event)
+
+  -- the child was ended, or that failed and was counted
+  pub record Ends (tells : K → KidTells) (r s : Row K) : Type 0 where
+    pub number : s.k ≡ r.k
+    pub over : Bool
+    pub ended : IsEnded (tells r.kid) (tells s.kid) over
 
   -- each of the rows before i stands to its old one in the relation, and the others are as they were
   abbrev pub Front : (Row K → Row K → Type 0) → ℕ → List (Row K) → List (Row K) → Type 0
@@ -200,6 +236,11 @@ module _ {K : Type 0} where
   Each R [] [] = ⊤
   Each R (r ∷ rows) (s ∷ now) = R r s × Each R rows now
   Each R _ _ = ⊥
+
+  -- each child was ended, or that failed and was counted, before its row was dropped
+  pub record AreEnded (tells : K → KidTells) (rows : List (Row K)) : Type 0 where
+    pub last : List (Row K)
+    pub ended : Each (Ends tells) rows last
 
   -- it was asked or not, and nothing of it was told
   pub record Rests (tells : K → KidTells) (r s : Row K) : Type 0 where
@@ -273,7 +314,7 @@ module _ {K : Type 0} where
     pub connection : r.c ≡ c
     pub feed : fed_all r ≡ []
     pub taken : handed_by r.tap ≡ []
-    pub marks : marks r ≡ record { wanted = false; input_ended = false; output_ended = false; exited = false; closing = false; taken = 0 }
+    pub marks : marks r ≡ record { started = false; wanted = false; input_ended = false; output_ended = false; exited = false; closing = false; taken = 0 }
     pub sound : IsSound tells r
 
   abbrev pub is_kept : Row K → Bool

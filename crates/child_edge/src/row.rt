@@ -1,12 +1,12 @@
 // One child: its kid, and our ends of its rings.
 ghost use Rattle.std.specs.Prelude.{◌≡◌, ◌++◌, ◌<◌, ◌≤◌, ◌+◌, drop, [], true, false, Some, None, length, IfOk, IfSome, IsNone, OnErr, OnOk, is_ok, if◌then◌else◌};
-ghost use Rattle.child_edge.specs.Rows.{IsSound, IsQuiet, Says, Stays, IsAsked, SameMarks, Changes, Kills, Releases, want_marks, end_marks, IsPushed, IsFedOn, fed_all, has_gone, has_exit, HasNothing, HasNoOutput, Feeds, is_settled, IsNewRow, Looked, marks};
+ghost use Rattle.child_edge.specs.Rows.{IsSound, IsQuiet, IsQuietOn, Says, SaysOn, SaysStart, Ends, Stays, IsAsked, SameMarks, Changes, Kills, Releases, want_marks, end_marks, IsPushed, IsFedOn, fed_all, has_gone, has_exit, HasNothing, HasNoOutput, Feeds, is_settled, IsNewRow, Looked, marks};
 ghost use Rattle.child_edge.specs.Kids.{IsOpenKid};
 ghost use Rattle.pipe_pump.specs.Rings.{handed_up, standing, IsRingOf, IsFeedOf, SameTap, SameFeeder, is_finished, is_open, fed, places, known_places, IsOtherEnd};
 ghost use Rattle.pipe_pump.specs.declared.ends.PumpEnd.TheVariants.{AtEnd};
 ghost use Rattle.host_base.specs.Outsides.{Rose};
 
-use super::{Kid, Reap};
+use super::{Birth, Kid, Reap};
 use host_base::{Bytes, NoMemory};
 use host_trace::Event;
 use pipe_pump::{Feeder, PumpEnd, RingEnd, Tap};
@@ -34,6 +34,8 @@ pub struct Row<K> {
     pub out_end: Option<PumpEnd>,
     pub in_end: Option<PumpEnd>,
     pub reaped: bool,
+    /// Started or StartFailed was given.
+    pub started: bool,
     /// EndInput came or InputGone was given.
     pub input_ended: bool,
     /// ChildEof or ChildBroken was given, or Release came.
@@ -134,6 +136,7 @@ impl<K: Kid> Row<K> {
             out_end: _,
             in_end: _,
             reaped: _,
+            started: _,
             input_ended: _,
             output_ended: _,
             exited: _,
@@ -221,6 +224,7 @@ impl<K: Kid> Row<K> {
             out_end: None,
             in_end: None,
             reaped: false,
+            started: false,
             input_ended: false,
             output_ended: false,
             exited: false,
@@ -263,12 +267,56 @@ impl<K: Kid> Row<K> {
         self.wanted = !self.output_ended;
     }
 
-    // Asks the kid for all that is open, and gives what is to be told first.
-    #[tactic(auto, using(crate::proofs::Steps::marks_two, crate::proofs::Steps::stays_two, crate::proofs::Steps::says_two))]
+    /// Asks what became of its start, until that is told, and then for all that is open. Gives what is to be told first.
     pub(crate) fn ask(&mut self, alloc: Global) -> Option<Event>
         requires { IsSound K.tells self.old }
         ensures some { IfSome result (Says K.tells self.old self.new) }
         ensures none { IsNone result → IsQuiet K.tells self.old self.new }
+    {
+        if self.started {
+            self.ask_on(alloc)
+        } else {
+            self.say_start()
+        }
+    }
+
+    // What became of its start.
+    fn say_start(&mut self) -> Option<Event>
+        requires sound { IsSound K.tells self.old }
+        requires first { self.old.started ≡ false }
+        ensures some { IfSome result (SaysStart K.tells self.old self.new) }
+        ensures none { IsNone result → IsQuiet K.tells self.old self.new }
+    {
+        match self.kid.started()? {
+            Birth::Born => {
+                self.started = true;
+                Some(Event::Started { k: self.k })
+            }
+            Birth::Unborn => {
+                self.started = true;
+                self.wanted = false;
+                self.input_ended = true;
+                self.output_ended = true;
+                self.exited = true;
+                Some(Event::StartFailed { k: self.k })
+            }
+        }
+    }
+
+    /// Waits for its start, kills and reaps it.
+    pub(crate) fn end(&mut self)
+        ensures { Ends K.tells self.old self.new }
+    {
+        self.kid.end();
+    }
+
+    // Asks the kid for all that is open, and gives what is to be told first.
+    #[tactic(auto, using(crate::proofs::Steps::marks_two, crate::proofs::Steps::stays_two, crate::proofs::Steps::says_two))]
+    fn ask_on(&mut self, alloc: Global) -> Option<Event>
+        requires sound { IsSound K.tells self.old }
+        requires started { self.old.started ≡ true }
+        ensures some { IfSome result (SaysOn K.tells self.old self.new) }
+        ensures none { IsNone result → IsQuietOn K.tells self.old self.new }
     {
         self.look();
         self.say(alloc)
@@ -278,8 +326,9 @@ impl<K: Kid> Row<K> {
     #[tactic(auto, using(crate::proofs::Steps::looked_says, crate::proofs::Steps::nothing_two))]
     fn say(&mut self, alloc: Global) -> Option<Event>
         requires sound { IsSound K.tells self.old }
+        requires started { self.old.started ≡ true }
         requires pushed { IsPushed self.old }
-        ensures some { IfSome result (Says K.tells self.old self.new) }
+        ensures some { IfSome result (SaysOn K.tells self.old self.new) }
         ensures none { IsNone result → HasNothing K.tells self.old self.new }
     {
         if let Some(event) = self.say_took() {
@@ -292,7 +341,7 @@ impl<K: Kid> Row<K> {
     fn say_took(&mut self) -> Option<Event>
         requires sound { IsSound K.tells self.old }
         requires pushed { IsPushed self.old }
-        ensures some { IfSome result (Says K.tells self.old self.new) }
+        ensures some { IfSome result (SaysOn K.tells self.old self.new) }
         ensures none { IsNone result → Looked K.tells self.old self.new }
         ensures fed_on { IsNone result → IsFedOn K.tells self.new }
     {
@@ -328,8 +377,9 @@ impl<K: Kid> Row<K> {
     #[tactic(auto, using(crate::proofs::Steps::stays_two, crate::proofs::Steps::says_two))]
     fn say_rest(&mut self, alloc: Global) -> Option<Event>
         requires sound { IsSound K.tells self.old }
+        requires started { self.old.started ≡ true }
         requires fed_on { IsFedOn K.tells self.old }
-        ensures some { IfSome result (Says K.tells self.old self.new) }
+        ensures some { IfSome result (SaysOn K.tells self.old self.new) }
         ensures none { IsNone result → HasNothing K.tells self.old self.new }
     {
         if let Some(event) = self.say_output(alloc) {
@@ -345,7 +395,7 @@ impl<K: Kid> Row<K> {
     fn say_output(&mut self, alloc: Global) -> Option<Event>
         requires sound { IsSound K.tells self.old }
         requires fed_on { IsFedOn K.tells self.old }
-        ensures some { IfSome result (Says K.tells self.old self.new) }
+        ensures some { IfSome result (SaysOn K.tells self.old self.new) }
         ensures none { IsNone result → HasNoOutput K.tells self.old self.new }
     {
         if !self.wanted {
@@ -365,7 +415,7 @@ impl<K: Kid> Row<K> {
                 self.output_ended = true;
                 Some(Event::ChildEof { k: self.k })
             }
-            Some(PumpEnd::Broken | PumpEnd::Spent | PumpEnd::Abandoned) => {
+            Some(PumpEnd::Broken | PumpEnd::Spent | PumpEnd::Abandoned | PumpEnd::LetGo) => {
                 self.wanted = false;
                 self.output_ended = true;
                 Some(Event::ChildBroken { k: self.k })
@@ -379,7 +429,7 @@ impl<K: Kid> Row<K> {
         requires wanted { self.old.wanted ≡ true }
         requires size { 0 < size }
         requires stand { (tap : _) → self.old.tap ≡ Some tap → size ≡ length (standing tap) }
-        ensures { Says K.tells self.old self.new result }
+        ensures { SaysOn K.tells self.old self.new result }
     {
         let Some(tap) = &mut self.tap else {
             unreachable!();
@@ -398,7 +448,7 @@ impl<K: Kid> Row<K> {
 
     fn say_gone(&mut self) -> Option<Event>
         requires { IsSound K.tells self.old }
-        ensures some { IfSome result (Says K.tells self.old self.new) }
+        ensures some { IfSome result (SaysOn K.tells self.old self.new) }
         ensures same { IsNone result → self.new ≡ self.old }
         ensures none { IsNone result → has_gone self.new ≡ false }
     {
@@ -407,7 +457,7 @@ impl<K: Kid> Row<K> {
         }
         match self.in_end {
             None | Some(PumpEnd::AtEnd) => None,
-            Some(PumpEnd::Broken | PumpEnd::Spent | PumpEnd::Abandoned) => {
+            Some(PumpEnd::Broken | PumpEnd::Spent | PumpEnd::Abandoned | PumpEnd::LetGo) => {
                 self.input_ended = true;
                 Some(Event::InputGone { k: self.k })
             }
@@ -415,8 +465,9 @@ impl<K: Kid> Row<K> {
     }
 
     fn say_exit(&mut self) -> Option<Event>
-        requires { IsSound K.tells self.old }
-        ensures some { IfSome result (Says K.tells self.old self.new) }
+        requires sound { IsSound K.tells self.old }
+        requires started { self.old.started ≡ true }
+        ensures some { IfSome result (SaysOn K.tells self.old self.new) }
         ensures same { IsNone result → self.new ≡ self.old }
         ensures none { IsNone result → has_exit self.new ≡ false }
     {

@@ -1,10 +1,10 @@
 // The children that run.
 ghost use Rattle.std.specs.Prelude.{◌≡◌, ◌+◌, ◌%◌, ◌^◌, ◌≤◌, ◌<◌, ◌++◌, ◌∷◌, [], ◌==◌, nat_lt, count_by, vec_len, IfOk, OnOk, OnErr, IfSome, IsNone, is_ok, if◌then◌else◌};
 ghost use Rattle.host_base.specs.Outsides.{Rose};
-ghost use Rattle.child_edge.specs.Rows.{IsQuiet, Each, OneSays, AllSound, OnKept, Feeds, Stays, IsNewRow, StartsRow, Changes, Kills, Releases, want_marks, end_marks, kept, is_kept, runs};
+ghost use Rattle.child_edge.specs.Rows.{IsQuiet, Each, OneSays, AllSound, OnKept, Feeds, Stays, IsNewRow, StartsRow, Ends, AreEnded, Changes, Kills, Releases, want_marks, end_marks, kept, is_kept, runs};
 ghost use Rattle.child_edge.specs.Starts.{counts_after, no_starts};
 
-use super::round::round;
+use super::round::{end_rows, round};
 use super::{Kid, Row, SpawnFault, Spawner, StartCounts, acts};
 use host_base::{Bytes, Launch, NoMemory};
 use host_trace::Event;
@@ -170,9 +170,34 @@ impl<S: Spawner + Drop> ChildSet<S> {
         self.len() < self.cap as usize
     }
 
-    /// Ends every child: the spawner takes back all kids, and none is kept.
-    #[tactic(auto, using(crate::proofs::Kept::one_taken, crate::proofs::Kept::all_taken))]
+    /// Ends every child: it waits for the start of each that is being started, kills and reaps them all, and only then
+    /// the spawner takes back the kids. None is kept.
     pub fn end(&mut self)
+        ensures ended { AreEnded S.Kid.tells self.old.rows.items }
+        ensures none { self.new.rows.items ≡ [] }
+        ensures cap { self.new.cap ≡ self.old.cap }
+        ensures counts { self.new.counts ≡ self.old.counts }
+        ensures faults { S.faults self.old.spawner ≤ S.faults self.new.spawner }
+        ensures taken { S.taken self.new.spawner % 2 ^ 64 ≡ (S.taken self.old.spawner + vec_len self.old.rows) % 2 ^ 64 }
+    {
+        self.end_kids();
+        self.give_back();
+    }
+
+    // Waits for the start of each, kills and reaps it.
+    fn end_kids(&mut self)
+        ensures ended { Each (Ends S.Kid.tells) self.old.rows.items self.new.rows.items }
+        ensures length { vec_len self.new.rows ≡ vec_len self.old.rows }
+        ensures cap { self.new.cap ≡ self.old.cap }
+        ensures counts { self.new.counts ≡ self.old.counts }
+        ensures spawner { self.new.spawner ≡ self.old.spawner }
+    {
+        end_rows(&mut self.rows);
+    }
+
+    // The spawner takes back all kids.
+    #[tactic(auto, using(crate::proofs::Kept::one_taken, crate::proofs::Kept::all_taken))]
+    fn give_back(&mut self)
         ensures none { self.new.rows.items ≡ [] }
         ensures cap { self.new.cap ≡ self.old.cap }
         ensures counts { self.new.counts ≡ self.old.counts }
@@ -191,7 +216,7 @@ impl<S: Spawner + Drop> ChildSet<S> {
         self.rows.iter().filter(|row| !row.exited).count()
     }
 
-    /// Starts child k of connection c, and its two pumps. What is answered is counted.
+    /// Hands the start of child k of connection c over. What is answered is counted.
     pub fn start(&mut self, k: u64, c: u64, launch: &Launch) -> Result<(), SpawnFault>
         requires sound { AllSound S.Kid.tells self.old.rows.items }
         requires room { count_by is_kept self.old.rows.items < self.old.cap }

@@ -39,6 +39,10 @@ pub struct Child {
     pub wanted: bool,
     // How many bytes it was fed, which it has not yet taken.
     pub fed: u64,
+    // Its input has ended.
+    pub closed: bool,
+    // Its output has ended.
+    pub ended: bool,
     // Its output has ended, or it was killed.
     pub over: bool,
     pub exited: bool,
@@ -218,6 +222,7 @@ impl Child {
         match next_piece(&mut self.output) {
             Some(bytes) => Event::ChildBytes { k, bytes },
             None => {
+                self.ended = true;
                 self.over = true;
                 Event::ChildEof { k }
             }
@@ -259,9 +264,10 @@ impl Child {
                 || self.over)
     }
 
-    /// Whether it has exited and was let go.
+    /// Whether no act on it is to come: it could not be started, or it has exited, its input has ended, and its output has
+    /// or was given up.
     pub fn is_settled(&self) -> bool {
-        self.exited && self.released
+        self.exited && (self.released || (self.closed && self.ended))
     }
 
     /// The next event of it, where one is due.
@@ -316,6 +322,7 @@ impl Child {
         match act {
             Act::Feed { bytes, .. } => self.fed = self.fed.saturating_add(bytes.len() as u64),
             Act::WantChild { .. } => self.wanted = true,
+            Act::EndInput { .. } => self.closed = true,
             Act::Kill { .. } => self.over = true,
             Act::Release { .. } => self.released = true,
             _ => {}

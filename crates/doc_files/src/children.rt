@@ -39,7 +39,7 @@ fn due_at<D: DocStore>(
     children[at].due(alloc, docs, store)
 }
 
-// Lets a child go that has exited and was released.
+// Lets a child go on which no act is to come.
 fn settle(children: &mut Vec<Child>, at: usize)
     ensures { (T : List AnItem) (held : Held) (docs : List DocRoot) → Knows held docs T children.old.items → Knows held docs T children.new.items }
 {
@@ -78,6 +78,8 @@ fn child_of(k: u64, c: u64, launch: &Launch) -> Result<Child, NoMemory>
         shut: false,
         wanted: false,
         fed: 0,
+        closed: false,
+        ended: false,
         over: false,
         exited: false,
         released: false,

@@ -3,3 +3,4 @@ pub mod Quiet
 pub mod Stops
 pub mod Fresh
 pub mod Closing
+pub mod Handed

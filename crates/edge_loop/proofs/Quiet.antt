@@ -6,7 +6,8 @@ use Rattle.host_trace.specs.declared.items.Event.{Event}
 use Rattle.child_edge.specs.Kids.{KidTells}
 use Rattle.child_edge.specs.declared.row.Row.{Row}
 use Rattle.child_edge.specs.Rows.{OneSays, Each, Rests, IsQuiet as IsQuietRow, kept, is_kept}
-use Rattle.child_edge.proofs.Steps.{stays_two, marks_two, says_two as row_says_two}
+use Rattle.child_edge.proofs.Steps.{stays_two, marks_two}
+use Rattle.child_edge.proofs.Later.{says_later as row_says_two}
 use Rattle.child_edge.proofs.Lists.{each_stays}
 use Rattle.socket_set.proofs.Sets.{quiet_self as set_self, quiet_two as set_two, tells_two as set_tells, counted_self as set_counts, counted_two as set_counts_two}
 use Rattle.edge_loop.specs.Loops.{LoopState, ChildrenRest, SameDue, IsQuiet, Counts, Counted, OfClient, OfChild, IsHeard, ending_after}
@@ -178,3 +179,8 @@ module _ {K : Type 0} where
       → IfSome r (λ e. OfChild tells e b d × Counted e b d) → IfSome r (λ e. IsHeard tells e a d × Counted e a d)
   child_later_some tells None a b d q g h = tt
   child_later_some tells (Some e) a b d q g h = (heard_later tells e a b d q (inr (inl h.0)), counted_later e a b d g h.1)
+
+  pub any_later : (tells : K → KidTells) (r : Option Event) (a b d : LoopState K) → IsQuiet tells a b → Counts a b
+      → IfSome r (λ e. IsHeard tells e b d × Counted e b d) → IfSome r (λ e. IsHeard tells e a d × Counted e a d)
+  any_later tells None a b d q g h = tt
+  any_later tells (Some e) a b d q g h = (heard_later tells e a b d q h.0, counted_later e a b d g h.1)

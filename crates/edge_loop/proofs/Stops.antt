@@ -32,7 +32,7 @@ module _ {K : Type 0} where
   stopped a = record a { ending = stopped_by a.ending }
 
   still_stopped : (a : LoopState K) → IsStill a → IsStill (stopped a)
-  still_stopped a h = record { none_kept = h.none_kept; none_asked = h.none_asked; sent = h.sent }
+  still_stopped a h = record { none_kept = h.none_kept; none_asked = h.none_asked; none_open = h.none_open; sent = h.sent }
 
   ends_stopped : (a : LoopState K) → EndsBy a → EndsBy (stopped a)
   ends_stopped a h =

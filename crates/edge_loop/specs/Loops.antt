@@ -15,10 +15,13 @@ use Rattle.child_edge.specs.Kids.{KidTells}
 use Rattle.child_edge.specs.declared.starts.StartCounts.{StartCounts}
 use Rattle.child_edge.specs.declared.row.Row.{Row}
 use Rattle.child_edge.specs.Rows.{OneSays, Each, Rests, kept, is_kept}
-use Rattle.booked_children.specs.Booked.{BookedState, Begins, ChildrenDo}
-use Rattle.socket_set.specs.Sets.{SetState, Tells, IsQuiet as IsQuietSet, Counted as CountedBySet, Acts as SetActs, clients, is_open_at}
+use Rattle.child_edge.specs.Starts.{Between, Repeats}
+use Rattle.booked_children.specs.Booked.{BookedState, Begins, Refuses, ChildrenDo}
+use Rattle.socket_set.specs.Sets.{SetState, Tells, IsQuiet as IsQuietSet, Counted as CountedBySet, Acts as SetActs, OnEach, clients, is_open_at}
+use Rattle.socket_set.specs.Clients.{EndsHearing}
 use Rattle.edge_loop.specs.Orders.{no_end, ticked, ordered_by, stopped_by}
 use Rattle.edge_loop.specs.declared.orders.Order.{Order}
+use Rattle.edge_loop.specs.declared.orders.Order.TheVariants.{Stop as StopNow, Drain}
 use Rattle.edge_loop.specs.declared.asked.Asked.{Asked}
 use Rattle.edge_loop.specs.declared.ending.Ending.{Ending}
 
@@ -58,7 +61,14 @@ unstarted_by _ k before = before
 pub record Closes (c : ℕ) (old new : SetState) : Type 0 where
   pub shut : is_open_at (clients new c) ≡ false
   pub others : (d : ℕ) → d ≢ c → clients new d ≡ clients old d
+  pub accepted : new.accepted ≡ old.accepted
   pub listening : new.listening ≡ old.listening
+
+-- What an order does to the clients: no further one is accepted, and before a quiet end each that speaks no WebSocket is
+-- heard to end.
+abbrev pub SetObeys : Order → SetState → SetState → Type 0
+SetObeys StopNow old new = new ≡ record old { listening = false }
+SetObeys Drain old new = OnEach EndsHearing (record old { listening = false }) new
 
 -- NoRoom is told of a connection that is open
 abbrev pub TellsOpen : Event → SetState → Type 0
@@ -140,10 +150,11 @@ module _ {K : Type 0} where
     pub due : SameDue old new
     pub ending : new.ending ≡ old.ending
 
-  -- nothing is under way: no child is kept, none is to be started, and nothing waits to be sent
+  -- nothing is under way: no child is kept, none is to be started, no client is open, and nothing waits to be sent
   pub record IsStill (s : LoopState K) : Type 0 where
     pub none_kept : count_by is_kept s.rows ≡ 0
     pub none_asked : s.starts ≡ []
+    pub none_open : All (λ row. row.1.shut ≡ true) s.set.rows
     pub sent : All (λ row. row.1.outgoing ≡ []) s.set.rows
 
   -- no child is kept, and no further client is accepted
@@ -174,17 +185,25 @@ module _ {K : Type 0} where
     pub ending : new.ending ≡ stopped_by old.ending
     pub cause : EndsBy new
 
-  -- What a start is answered with. Where no memory was found for it, and its connection is over, it is told not to have been
+  -- Why a start is refused. Where no memory was found for it, and its connection is over, it is told not to have been
   -- started.
-  abbrev pub Answers : (K → KidTells) → ℕ → ℕ → Launch → Event → LoopState K → LoopState K → Type 0
-  Answers tells k c launch event old new =
-      Begins tells k c launch event (booked old) (booked new)
-      ⊎ ((event ≡ StartFailed k) × (is_open_at (clients old.set c) ≡ false) × Begins tells k c launch (NoRoom c) (booked old) (booked new))
+  abbrev pub Answers : ℕ → ℕ → Event → LoopState K → LoopState K → Type 0
+  Answers k c event old new =
+      Refuses k c event (booked old) (booked new)
+      ⊎ ((event ≡ StartFailed k) × (is_open_at (clients old.set c) ≡ false) × Refuses k c (NoRoom c) (booked old) (booked new))
 
-  -- a child was tried to be started
-  pub record IsBegun (tells : K → KidTells) (asked : Asked) (event : Event) (old new : LoopState K) : Type 0 where
-    pub begins : Answers tells asked.k asked.c asked.launch event old new
+  -- a start was refused
+  pub record IsRefused (asked : Asked) (event : Event) (old new : LoopState K) : Type 0 where
+    pub answers : Answers asked.k asked.c event old new
     pub unstarted : new.unstarted ≡ unstarted_by event asked.k old.unstarted
+    pub starts : new.starts ≡ old.starts
+    pub set : new.set ≡ old.set
+    pub ending : new.ending ≡ old.ending
+
+  -- a start was handed over, and nothing of it is told yet
+  pub record IsBegun (tells : K → KidTells) (asked : Asked) (old new : LoopState K) : Type 0 where
+    pub begins : Begins tells asked.k asked.c asked.launch None (booked old) (booked new)
+    pub unstarted : new.unstarted ≡ old.unstarted
     pub starts : new.starts ≡ old.starts
     pub set : new.set ≡ old.set
     pub ending : new.ending ≡ old.ending
@@ -195,14 +214,24 @@ module _ {K : Type 0} where
       ((is_open_at (clients old.set c) ≡ true) × (event ≡ NoRoom c) × (new ≡ record old { unstarted = Some k }))
       ⊎ ((is_open_at (clients old.set c) ≡ false) × (event ≡ StartFailed k) × (new ≡ record old { child_faults = new.child_faults }))
 
-  -- the first child that was asked for was tried to be started, once all before it were answered
-  pub record OfStart (tells : K → KidTells) (event : Event) (old new : LoopState K) : Type 0 where
+  -- the start of the first child that was asked for was refused, once all before it were answered or handed over
+  pub record OfStart (event : Event) (old new : LoopState K) : Type 0 where
     pub asked : Asked
     pub answered : old.unstarted ≡ None
     pub first : old.starts ≡ asked ∷ new.starts
-    pub begins : Answers tells asked.k asked.c asked.launch event old new
+    pub answers : Answers asked.k asked.c event old new
     pub reachable : TellsOpen event old.set
     pub unstarted : new.unstarted ≡ unstarted_by event asked.k old.unstarted
+    pub set : new.set ≡ old.set
+    pub ending : new.ending ≡ old.ending
+
+  -- .. or it was handed over
+  pub record HandsOver (tells : K → KidTells) (old new : LoopState K) : Type 0 where
+    pub asked : Asked
+    pub answered : old.unstarted ≡ None
+    pub first : old.starts ≡ asked ∷ new.starts
+    pub begins : Begins tells asked.k asked.c asked.launch None (booked old) (booked new)
+    pub unstarted : new.unstarted ≡ None
     pub set : new.set ≡ old.set
     pub ending : new.ending ≡ old.ending
 
@@ -214,32 +243,41 @@ module _ {K : Type 0} where
     pub told : new ≡ record old { unstarted = None; child_faults = new.child_faults }
 
   -- what is due before anything is waited for
-  abbrev pub IsDue : (K → KidTells) → Event → LoopState K → LoopState K → Type 0
-  IsDue tells event old new = OfUnstarted event old new ⊎ OfStart tells event old new
+  abbrev pub IsDue : Event → LoopState K → LoopState K → Type 0
+  IsDue event old new = OfUnstarted event old new ⊎ OfStart event old new
 
   -- what is waited for
   abbrev pub IsHeard : (K → KidTells) → Event → LoopState K → LoopState K → Type 0
   IsHeard tells event old new = OfClient tells event old new ⊎ OfChild tells event old new ⊎ OfOrder tells event old new
 
-  -- every start was answered
+  -- every start was answered or handed over
   pub record HasNoneDue (s : LoopState K) : Type 0 where
     pub unstarted : s.unstarted ≡ None
     pub starts : s.starts ≡ []
 
-  -- The event is owed: it has a cause in what was asked, heard and ordered, and is told once. What is due comes before
-  -- what is waited for.
-  abbrev pub IsOwed : (K → KidTells) → Event → LoopState K → LoopState K → Type 0
-  IsOwed tells event old new = IsDue tells event old new ⊎ (HasNoneDue old × IsHeard tells event old new)
+  -- starts that were asked for were handed over, up to one that is refused, or none where a child found no memory
+  abbrev pub IsTold : (K → KidTells) → Event → LoopState K → LoopState K → Type 0
+  IsTold tells event old new = Between (λ mid. Repeats (HandsOver tells) old mid) (λ mid. IsDue event mid new)
 
-  -- what an order does to it
-  abbrev pub after_order : Option Order → LoopState K → LoopState K
-  after_order None s = s
-  after_order (Some order) s = record s { ending = ordered_by order s.ending; set = record (s.set) { listening = false } }
+  -- all starts that were asked for were handed over
+  pub record AllHanded (tells : K → KidTells) (old new : LoopState K) : Type 0 where
+    pub handed : Repeats (HandsOver tells) old new
+    pub none_due : HasNoneDue new
+
+  -- The event is owed: it has a cause in what was asked, heard and ordered, and is told once. What is due comes before
+  -- what is waited for, and so does each start that was asked for.
+  abbrev pub IsOwed : (K → KidTells) → Event → LoopState K → LoopState K → Type 0
+  IsOwed tells event old new =
+      IsTold tells event old new ⊎ Between (λ mid. AllHanded tells old mid) (λ mid. IsHeard tells event mid new)
+
+  -- an order was heard
+  pub record Obeys (order : Order) (old new : LoopState K) : Type 0 where
+    pub set : SetObeys order old.set new.set
+    pub is_now : new ≡ record old { ending = ordered_by order old.ending; set = new.set }
 
   -- an order was heard, if one came
-  pub record TakesOrder (old new : LoopState K) : Type 0 where
-    pub order : Option Order
-    pub is_now : new ≡ after_order order old
+  abbrev pub TakesOrder : LoopState K → LoopState K → Type 0
+  TakesOrder old new = (new ≡ old) ⊎ ((order : Order) × Obeys order old new)
 
   -- an order was heard, if one came, and then the event is owed
   pub record OwedAfterOrder (tells : K → KidTells) (event : Event) (old new : LoopState K) : Type 0 where

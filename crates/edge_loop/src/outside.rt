@@ -1,7 +1,7 @@
 // The outside of one loop.
 ghost use Rattle.std.specs.Prelude.{◌≡◌, ◌<◌, ℕ, false, is_ok, if◌then◌else◌};
 ghost use Rattle.socket_set.specs.Sets.{clients, is_open_at};
-ghost use Rattle.edge_loop.specs.Loops.{Closes};
+ghost use Rattle.edge_loop.specs.Loops.{Closes, SetObeys};
 
 use super::leaving::send_one;
 use super::{Asked, Ending, Leaving, Order, Orders, Sending};
@@ -14,18 +14,8 @@ use socket_set::{Polled, Ports, SocketSet};
 use std::alloc::Global;
 use std::marker::Model;
 use std::sync::Wait;
-use std::thread::yield_now;
 
-// After a child is to leave, as at the end of its output, all are asked so often with no wait: an exit comes soon. Where
-// many children run it is less often, since each time goes over all of them: no more than so many looks at children.
-const SOON: usize = 32;
-
-const LOOKS: usize = 1_024;
-
-// Then the shortest and the longest wait, in milliseconds. What nothing wakes the loop for, as an exit, is asked for
-// after each.
-const LEAST: u64 = 1;
-
+// The longest wait, in milliseconds. What nothing wakes the loop for is asked for after it.
 const MOST: u64 = 100;
 
 // After so many events of children in a row the clients and the clock are asked first: a child whose output is dropped
@@ -46,10 +36,8 @@ pub struct NetOutside<P: Ports, S: Spawner, O: Orders, L: Ledger, R> {
     starts: Vec<Asked>,
     unstarted: Option<u64>,
     ending: Ending,
-    // So often it doesn't wait.
-    soon: usize,
-    // How many milliseconds it waits next, at most.
-    pause: u64,
+    // All are asked again before it waits.
+    again: bool,
     // How many events of children came in a row.
     in_row: u32,
     // For so many more events the clients are asked before the children.
@@ -95,12 +83,12 @@ impl<
     ghost use Rattle.std.specs.Prelude.{◌≡◌, ◌≤◌, ◌<◌, ◌⊎◌, [], true, false, None, length, count_by, All, IfOk, IfSome, IsSome, IsNone, OnOk, OnErr};
     ghost use Rattle.host_base.specs.Outsides.{Rose};
     ghost use Rattle.host_trace.specs.Told.{is_failure, is_full_book, carries_nothing};
-    ghost use Rattle.child_edge.specs.Rows.{OneSays, Each, IsQuiet as IsQuietRow, kept, is_kept};
+    ghost use Rattle.child_edge.specs.Rows.{OneSays, Each, IsQuiet as IsQuietRow, AreEnded, kept, is_kept};
     ghost use Rattle.booked_children.specs.Booked.{Begins, ChildrenDo};
     ghost use Rattle.socket_set.specs.Sets.{IsQuiet as IsQuietSet, Tells, Acts as SetActs, Counted as SetCounted, told_by};
     ghost use Rattle.socket_set.specs.Clients.{has_failed};
     ghost use Rattle.edge_loop.specs.Orders.{stopped_by};
-    ghost use Rattle.edge_loop.specs.Loops.{faults_of, IsNew, IsQuiet, Counts, Counted, IsDue, HasNoneDue, IsHeard, IsOwed, OwedAfterOrder, TakesOrder, ending_after, OfClient, OfChild, OfStart, OfOrder, IsBegun, TellsOpen, ToldNoRoom, IsStill, IsStopDue, Asks, Acts, Starts, OnChildren, OnClients, IsHalted, IsSent};
+    ghost use Rattle.edge_loop.specs.Loops.{faults_of, IsNew, IsQuiet, Counts, Counted, IsHeard, IsOwed, IsTold, AllHanded, HandsOver, OwedAfterOrder, TakesOrder, ending_after, OfClient, OfChild, OfStart, OfOrder, IsBegun, IsRefused, TellsOpen, ToldNoRoom, IsStill, IsStopDue, Asks, Acts, Starts, OnChildren, OnClients, IsHalted, IsSent};
 
     /// A loop of which nothing was heard, over clients and children of whom none came. Whoever gives its orders and its
     /// children wakes its ports.
@@ -124,8 +112,7 @@ impl<
             starts: Vec::new(alloc),
             unstarted: None,
             ending: Ending::none(),
-            soon: 0,
-            pause: MOST,
+            again: false,
             in_row: 0,
             calm: 0,
             gave: false,
@@ -152,13 +139,13 @@ impl<
         self.tell()
     }
 
-    // Hears the next order. Once an end was ordered no further client is accepted.
+    // Hears the next order.
     fn take_order(&mut self)
         ensures { TakesOrder self.old self.new }
     {
         if let Some(order) = self.orders.next_order() {
             self.ending.order(order);
-            self.sockets.end_listening();
+            tell_clients(&mut self.sockets, order);
         }
     }
 
@@ -200,54 +187,33 @@ impl<
         }
     }
 
-    // Waits until a client, a child or the clock has something to tell. Where that comes soon, all are asked again
-    // instead, once others ran.
+    // Waits until a client, a child or the clock has something to tell, unless all are to be asked again first.
     fn rest(&mut self)
         ensures quiet { IsQuiet S.Kid.tells self.old self.new }
         ensures counts { Counts self.old self.new }
     {
         self.calm = 0;
-        if self.is_soon() {
-            yield_now();
+        self.sockets.catch_up();
+        if self.again {
+            self.again = false;
             return;
         }
-        let millis = self.next_pause();
-        self.sockets.wait(millis);
+        self.sockets.wait(MOST);
     }
 
-    // Counts how often it doesn't wait.
-    fn is_soon(&mut self) -> bool
-        ensures { self.new ≡ self.old }
-    {
-        let soon = self.soon > 0;
-        self.soon = self.soon.saturating_sub(1);
-        soon
-    }
-
-    // How long it waits at most. Without a child there is nothing but what wakes it, and the next tick.
-    fn next_pause(&mut self) -> u64
-        ensures { self.new ≡ self.old }
-    {
-        if self.children.is_empty() {
-            self.pause = MOST;
-        }
-        let pause = self.pause;
-        self.pause = pause.saturating_mul(2).clamp(LEAST, MOST);
-        pause
-    }
-
-    // What is told before anything is waited for.
+    // What is told before anything is waited for. The starts that were asked for are handed over, up to one that is
+    // refused.
+    #[tactic(auto, using(crate::proofs::Handed::told_first))]
     fn tell_due(&mut self) -> Option<Event>
-        ensures some { IfSome result (λ event. IsDue S.Kid.tells event self.old self.new × Counted event self.old self.new) }
-        ensures none { IsNone result → (self.new ≡ self.old) × HasNoneDue self.old }
+        ensures told { IfSome result (λ event. IsTold S.Kid.tells event self.old self.new) }
+        ensures handed { IsNone result → AllHanded S.Kid.tells self.old self.new }
+        ensures counted { IfSome result (λ event. Counted event self.old self.new) }
+        ensures counts { Counts self.old self.new }
     {
         if let Some(k) = self.unstarted.take() {
             return Some(self.fail(k));
         }
-        if self.starts.is_empty() {
-            return None;
-        }
-        Some(self.start_first())
+        self.hand_over()
     }
 
     // Tells that child k was not started, and counts it.
@@ -260,26 +226,50 @@ impl<
         self.children.fail(k)
     }
 
-    // Tries to start the first that was asked for.
-    fn start_first(&mut self) -> Event
+    // Hands over the starts that were asked for, up to one that is refused.
+    #[tactic(auto, using(crate::proofs::Handed::none_handed, crate::proofs::Handed::one_handed, crate::proofs::Handed::all_handed, crate::proofs::Handed::told_behind, crate::proofs::Quiet::counts_self, crate::proofs::Quiet::counts_two, crate::proofs::Quiet::counted_later))]
+    fn hand_over(&mut self) -> Option<Event>
+        requires answered { self.old.unstarted ≡ None }
+        ensures told { IfSome result (λ event. IsTold S.Kid.tells event self.old self.new) }
+        ensures handed { IsNone result → AllHanded S.Kid.tells self.old self.new }
+        ensures counted { IfSome result (λ event. Counted event self.old self.new) }
+        ensures counts { Counts self.old self.new }
+    {
+        while !self.starts.is_empty() {
+            if let Some(event) = self.start_first() {
+                return Some(event);
+            }
+        }
+        None
+    }
+
+    // Tries to hand over the first start that was asked for.
+    fn start_first(&mut self) -> Option<Event>
         requires some { 0 < length self.old.starts }
         requires answered { self.old.unstarted ≡ None }
-        ensures start { OfStart S.Kid.tells result self.old self.new }
-        ensures counted { Counted result self.old self.new }
+        ensures refused { IfSome result (λ event. OfStart event self.old self.new) }
+        ensures handed { IsNone result → HandsOver S.Kid.tells self.old self.new }
+        ensures counted { IfSome result (λ event. Counted event self.old self.new) }
+        ensures counts { Counts self.old self.new }
     {
         let asked = self.starts.remove(0);
         self.begin(&asked)
     }
 
+    // The children are asked next, what becomes of the start among the rest.
     #[tactic(auto, using(crate::proofs::Causes::told_open, crate::proofs::Causes::open_other))]
-    fn begin(&mut self, asked: &Asked) -> Event
-        ensures begins { IsBegun S.Kid.tells asked.now result self.old self.new }
-        ensures reachable { TellsOpen result self.old.set }
-        ensures counted { Counted result self.old self.new }
+    fn begin(&mut self, asked: &Asked) -> Option<Event>
+        ensures refused { IfSome result (λ event. IsRefused asked.now event self.old self.new) }
+        ensures reachable { IfSome result (λ event. TellsOpen event self.old.set) }
+        ensures begun { IsNone result → IsBegun S.Kid.tells asked.now self.old self.new }
+        ensures counted { IfSome result (λ event. Counted event self.old self.new) }
+        ensures counts { Counts self.old self.new }
     {
-        match self.children.begin(asked.k, asked.c, &asked.launch) {
-            Event::NoRoom { c } => self.tell_no_room(asked.k, c),
-            event => event,
+        self.calm = 0;
+        let refusal = self.children.begin(asked.k, asked.c, &asked.launch)?;
+        match refusal {
+            Event::NoRoom { c } => Some(self.tell_no_room(asked.k, c)),
+            other => Some(other),
         }
     }
 
@@ -296,15 +286,44 @@ impl<
         }
     }
 
-    // What is to be told, if anything is: that it ends, or else what a child has to tell, or else a client.
+    // What is to be told, if anything is: that it ends, or else a tick, or else what a child has to tell, or a client.
     fn hear(&mut self) -> Option<Event>
         ensures some { IfSome result (λ event. IsHeard S.Kid.tells event self.old self.new × Counted event self.old self.new) }
         ensures none { IsNone result → IsQuiet S.Kid.tells self.old self.new × Counts self.old self.new }
     {
         match self.hear_end() {
             Some(event) => Some(event),
+            None => self.hear_in_time(),
+        }
+    }
+
+    // The clock is asked before each child and each client, however long these take and however many they are.
+    fn hear_in_time(&mut self) -> Option<Event>
+        ensures some { IfSome result (λ event. IsHeard S.Kid.tells event self.old self.new × Counted event self.old self.new) }
+        ensures none { IsNone result → IsQuiet S.Kid.tells self.old self.new × Counts self.old self.new }
+    {
+        match self.hear_tick() {
+            Some(event) => Some(event),
             None => self.hear_rest(),
         }
+    }
+
+    fn hear_tick(&mut self) -> Option<Event>
+        ensures some { IfSome result (λ event. OfClient S.Kid.tells event self.old self.new × Counted event self.old self.new) }
+        ensures none { IsNone result → IsQuiet S.Kid.tells self.old self.new × Counts self.old self.new }
+    {
+        let event = self.ask_clock()?;
+        self.note(&event);
+        Some(event)
+    }
+
+    fn ask_clock(&mut self) -> Option<Event>
+        ensures some { IfSome result (λ event. OnClients (Tells event) self.old self.new) }
+        ensures none { IsNone result → OnClients IsQuietSet self.old self.new }
+        ensures counted { OnClients SetCounted self.old self.new }
+        ensures failure { has_failed result ≡ true → Rose self.old.set.faults self.new.set.faults }
+    {
+        self.sockets.tick()
     }
 
     // The children before the clients, but not for ever.
@@ -393,6 +412,7 @@ impl<
         self.ending.draining
             && self.starts.is_empty()
             && self.children.is_empty()
+            && self.sockets.is_all_shut()
             && self.sockets.is_all_sent()
     }
 
@@ -402,8 +422,6 @@ impl<
     {
         let event = self.children.poll()?;
         self.calm = 0;
-        self.pause = pause_after(&event, self.pause);
-        self.soon = soon_after(&event, self.soon, self.children.running());
         self.in_row = self.in_row.saturating_add(1);
         Some(event)
     }
@@ -419,21 +437,21 @@ impl<
         Some(event)
     }
 
-    // Where all are asked again soon in any case, whether nothing more is there needn't be known.
+    // Where all are asked again in any case, whether nothing more is there needn't be known.
     fn ask_clients(&mut self) -> Option<Event>
         ensures some { IfSome result (λ event. OnClients (Tells event) self.old self.new) }
         ensures none { IsNone result → OnClients IsQuietSet self.old self.new }
         ensures counted { OnClients SetCounted self.old self.new }
         ensures failure { has_failed result ≡ true → Rose self.old.set.faults self.new.set.faults }
     {
-        if self.soon > 0 {
+        if self.again {
             return self.sockets.glance();
         }
         match self.sockets.poll() {
             Polled::Told(event) => Some(event),
             Polled::Nothing => None,
             Polled::Again => {
-                self.soon = 1;
+                self.again = true;
                 None
             }
         }
@@ -482,8 +500,6 @@ impl<
         ensures room { carries_nothing act.now ≡ true → result ≡ Acted.Done }
         ensures counts { Counts self.old self.new }
     {
-        self.pause = pause_for(act, self.pause);
-        self.soon = soon_for(act, self.soon, self.children.running());
         self.calm = 0;
         self.children.act(act)
     }
@@ -511,7 +527,8 @@ impl<
     /// Ends every child and spends all tickets, and accepts no further client. Where anything is unsent every client is
     /// shut: one that takes none of it for 150 ticks is given up.
     pub fn halt(&mut self)
-        ensures { IsHalted self.new }
+        ensures halted { IsHalted self.new }
+        ensures ended { AreEnded S.Kid.tells self.old.rows }
     {
         self.children.end_all();
         self.sockets.end_listening();
@@ -521,6 +538,7 @@ impl<
     /// Ends every child, spends all tickets and sends what is still unsent, for at most 150 ticks without a byte that
     /// leaves for a client. It gives its part of the ledger back.
     pub fn end(self) -> Share<L>
+        ensures ended { AreEnded S.Kid.tells self.rows }
         ensures one_part { result.parts ≡ 1 }
         ensures none { result.amount ≡ 0 }
     {
@@ -535,6 +553,7 @@ impl<
     /// the ledger back.
     pub(crate) fn give_back(self) -> Share<L>
         requires { IsSent self }
+        ensures ended { AreEnded S.Kid.tells self.rows }
         ensures one_part { result.parts ≡ 1 }
         ensures none { result.amount ≡ 0 }
     {
@@ -546,8 +565,7 @@ impl<
             starts: _,
             unstarted: _,
             ending: _,
-            soon: _,
-            pause: _,
+            again: _,
             in_row: _,
             calm: _,
             gave: _,
@@ -571,12 +589,28 @@ impl<P: Ports + Drop, S: Spawner + Drop, O: Orders + Drop, L: Ledger, R: Wait + 
         }
         match self.sockets.poll() {
             Polled::Nothing => Sending::Blocked,
-            Polled::Told(_) | Polled::Again => Sending::Moving,
+            Polled::Told(_) => Sending::Moving,
+            Polled::Again => {
+                self.sockets.catch_up();
+                Sending::Moving
+            }
         }
     }
 
     fn wait_to_send(&mut self, millis: u64) {
         self.sockets.wait(millis);
+    }
+}
+
+// Has the clients obey an order. No further one is accepted. Before a quiet end each that speaks no WebSocket is heard to
+// end behind what it has sent.
+fn tell_clients<P: Ports + Drop>(sockets: &mut SocketSet<P>, order: Order)
+    ensures { SetObeys order sockets.old sockets.new }
+{
+    sockets.end_listening();
+    match order {
+        Order::Stop => {}
+        Order::Drain => sockets.end_hearing(),
     }
 }
 
@@ -589,13 +623,15 @@ fn shut_unsent<P: Ports + Drop>(sockets: &mut SocketSet<P>)
     }
 }
 
-// Shuts every client.
+// Shuts every client that is there.
 fn shut_all<P: Ports + Drop>(sockets: &mut SocketSet<P>)
     ensures listening { sockets.new.listening ≡ sockets.old.listening }
     ensures shut { (c : ℕ) → c < sockets.old.accepted → is_open_at (clients sockets.new c) ≡ false }
 {
-    for c in 0..sockets.accepted() {
+    let mut c = sockets.next_from(0);
+    while c < sockets.accepted() {
         shut_one(sockets, c);
+        c = sockets.next_from(c + 1);
     }
 }
 
@@ -610,41 +646,6 @@ fn shut_one<P: Ports + Drop>(sockets: &mut SocketSet<P>, c: u64)
             why: Why::Stopped,
         });
     }
-}
-
-// A child whose output ended exits soon.
-fn pause_after(event: &Event, pause: u64) -> u64 {
-    match event {
-        Event::ChildEof { .. } | Event::ChildBroken { .. } => LEAST,
-        _ => pause,
-    }
-}
-
-fn soon_after(event: &Event, soon: usize, running: usize) -> usize {
-    match event {
-        Event::ChildEof { .. } | Event::ChildBroken { .. } => soon_beside(running),
-        _ => soon,
-    }
-}
-
-// .. and so does one that is killed.
-fn pause_for(act: &Act, pause: u64) -> u64 {
-    match act {
-        Act::Kill { .. } => LEAST,
-        _ => pause,
-    }
-}
-
-fn soon_for(act: &Act, soon: usize, running: usize) -> usize {
-    match act {
-        Act::Kill { .. } => soon_beside(running),
-        _ => soon,
-    }
-}
-
-// How often there is no wait where so many children run.
-fn soon_beside(running: usize) -> usize {
-    (LOOKS / running.max(1)).clamp(1, SOON)
 }
 
 fn acted(done: Result<(), NoMemory>) -> Acted

@@ -17,8 +17,8 @@ pub const HELP: &str =
     "cgihost runs a program for a request and answers from its output (CGI/1.1, RFC 3875).
 
   cgihost once SITE            serves one connection over standard input and output
-  cgihost serve SITE           serves sockets; with --loops N in N loops beside each other, and with --turns N until each of
-                               them heard N events, in any order
+  cgihost serve SITE           serves sockets; with --loops N in N loops beside each other, with --turns N until each of them
+                               heard N events, and with --log FILE a line for each reply is added to that file, in any order
   cgihost check SITE           reads the site and says how many scripts it has
   cgihost upgrade SITE         writes the site as a site file of version 2
   cgihost explain SITE         reads one request and says what would be started for it, or how it is refused

@@ -6,7 +6,7 @@ mod listening;
 mod maker;
 mod stdin;
 
-pub use line::OrderLine;
-pub use listening::{Listening, Refused};
+pub use line::{OrderLine, Said};
+pub use listening::{Listening, NotHad, Refused};
 pub use maker::NetMaker;
 pub use stdin::{StdinOrders, Told};

@@ -2,7 +2,7 @@
 ghost use Rattle.std.specs.Prelude.{Some};
 ghost use Rattle.net_edge.specs.Makers.{listening_text, refused_text};
 
-use std::fmt;
+use std::{fmt, io};
 
 /// Says where a server listens.
 #[derive(Clone, Copy)]
@@ -19,7 +19,25 @@ impl fmt::Display for Listening<'_> {
     }
 }
 
-/// Says where a server can't listen, and what to do.
+/// Says where a server can't listen, and the system's reason.
+#[derive(Clone, Copy)]
+pub struct NotHad<'s> {
+    pub address: &'s str,
+    pub port: u16,
+    pub reason: &'s io::Error,
+}
+
+impl fmt::Display for NotHad<'_> {
+    fn fmt<W: fmt::Write>(&self, f: &mut fmt::Formatter<W>) -> fmt::Result {
+        write!(
+            f,
+            "cgihost: can't listen on {}:{}: {}",
+            self.address, self.port, self.reason
+        )
+    }
+}
+
+/// Says where a server can't listen, as somebody does, and what to do.
 #[derive(Clone, Copy)]
 pub struct Refused<'s> {
     pub address: &'s str,

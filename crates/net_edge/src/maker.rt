@@ -2,7 +2,7 @@
 ghost use Rattle.std.specs.Prelude.{◌≡◌, ◌≤◌, IfOk};
 ghost use Rattle.host_base.specs.Outsides.{Rose};
 
-use super::{Listening, Refused, StdinOrders, Told};
+use super::{Listening, NotHad, Refused, StdinOrders, Told};
 use child_edge::SpawnFault;
 use edge_loop::{Maker, Parts};
 use host_base::{Site, Text};
@@ -11,9 +11,11 @@ use loop_bell::Bell;
 use net_sockets::{Listener, NetFault, NetPorts, Network};
 use pipe_pump::rings;
 use std::alloc::Global;
-use std::io::Stdin;
-use std::net::Net;
+use std::io;
+use std::io::{ErrorKind, Stdin};
+use std::net::{IpAddr, Net, SocketAddr, TcpListener};
 use std::process::{Processes, SystemProcess};
+use std::sync::atomic::AtomicBool;
 use std::sync::{Arc, Wait};
 use std::time::Clock;
 use std_spawner::{StartThread, StdSpawner};
@@ -34,6 +36,8 @@ pub struct NetMaker<R, T> {
     // What starts threads, one for each loop.
     starters: Vec<T>,
     input: Option<Stdin>,
+    // Where the orders say that the log is to be opened anew.
+    log: Option<Arc<AtomicBool>>,
     // Once the first loop was made.
     told: Option<Arc<Told>>,
     // Where it listens.
@@ -55,11 +59,19 @@ impl<R: Net + Clock + Copy + Drop, T: StartThread + Drop> NetMaker<R, T> {
             network: Network::new(rt, alloc),
             starters,
             input: Some(input),
+            log: None,
             told: None,
             address: None,
             listener: None,
             faults: 0,
         }
+    }
+
+    /// The same, where a line `log` on standard input makes this true.
+    pub fn with_log(self, log: Option<Arc<AtomicBool>>) -> Self
+        ensures { result.faults ≡ self.faults }
+    {
+        NetMaker { log, ..self }
     }
 }
 
@@ -178,7 +190,7 @@ impl<
         let Ok((ring, tap)) = rings(self.alloc, RING) else {
             return Err(EnterFault::NoMemory);
         };
-        let Ok(told) = Arc::new(self.alloc, Told::new(tap)) else {
+        let Ok(told) = Arc::new(self.alloc, Told::new(tap, self.log.take())) else {
             return Err(EnterFault::NoMemory);
         };
         match spawner.read_input(input, ring) {
@@ -217,14 +229,33 @@ impl<R: Eprint, T> NetMaker<R, T> {
             let _ = self.rt.eprintln(line);
         }
     }
+}
 
+// Why a site can't be listened at, by trying once more.
+fn reason_of<R: Net>(rt: &R, site: &Site) -> Option<io::Error> {
+    let Ok(ip) = site.listen.as_str().parse::<IpAddr>() else {
+        return None;
+    };
+    TcpListener::bind(rt, SocketAddr::new(ip, site.port)).err()
+}
+
+impl<R: Net + Eprint, T> NetMaker<R, T> {
     // Says on standard error that it can't listen there.
     fn say_refused(&self, site: &Site) {
-        let line = Refused {
-            address: site.listen.as_str(),
-            port: site.port,
-        };
-        let _ = self.rt.eprintln(line);
+        let address = site.listen.as_str();
+        let port = site.port;
+        match reason_of(&self.rt, site) {
+            Some(reason) if reason.kind() != ErrorKind::AddrInUse => {
+                let _ = self.rt.eprintln(NotHad {
+                    address,
+                    port,
+                    reason: &reason,
+                });
+            }
+            _ => {
+                let _ = self.rt.eprintln(Refused { address, port });
+            }
+        }
     }
 }
 

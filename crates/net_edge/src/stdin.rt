@@ -1,8 +1,8 @@
-// Orders read on standard input by a pump of its own, and told to every loop.
+// Orders read on standard input by a pump of its own, and told to every loop; and that the log is to be opened anew.
 ghost use Rattle.std.specs.Prelude.{◌≡◌, IfOk};
 ghost use Rattle.edge_loop.specs.Orders.{OrdersTold, told_after};
 
-use super::OrderLine;
+use super::{OrderLine, Said};
 use edge_loop::{Order, Orders};
 use pipe_pump::Tap;
 use std::alloc::Global;
@@ -20,15 +20,18 @@ const PIECES: u32 = 16;
 pub struct Told {
     stop: AtomicBool,
     drain: AtomicBool,
+    // Where it is said that the log is to be opened anew, if anywhere.
+    log: Option<Arc<AtomicBool>>,
     reader: Mutex<Reader>,
 }
 
 impl Told {
-    /// Nothing was, and the pump of this tap reads what will be.
-    pub fn new(tap: Tap) -> Self {
+    /// Nothing was, and the pump of this tap reads what will be. `log` becomes true where the log is to be opened anew.
+    pub fn new(tap: Tap, log: Option<Arc<AtomicBool>>) -> Self {
         Told {
             stop: AtomicBool::new(false),
             drain: AtomicBool::new(false),
+            log,
             reader: Mutex::new(Reader {
                 tap,
                 line: OrderLine::new(),
@@ -42,10 +45,17 @@ impl Told {
         }
     }
 
-    fn tell(&self, order: Order) {
-        match order {
-            Order::Stop => self.stop.store(true, Ordering::SeqCst),
-            Order::Drain => self.drain.store(true, Ordering::SeqCst),
+    fn tell(&self, said: Said) {
+        match said {
+            Said::Order(Order::Stop) => self.stop.store(true, Ordering::SeqCst),
+            Said::Order(Order::Drain) => self.drain.store(true, Ordering::SeqCst),
+            Said::Log => self.open_anew(),
+        }
+    }
+
+    fn open_anew(&self) {
+        if let Some(log) = &self.log {
+            log.store(true, Ordering::SeqCst);
         }
     }
 
@@ -80,8 +90,8 @@ impl Reader {
 
     fn hear(&mut self, bytes: &[u8], told: &Told) {
         for byte in bytes {
-            if let Some(order) = self.line.hear(*byte) {
-                told.tell(order);
+            if let Some(said) = self.line.hear(*byte) {
+                told.tell(said);
             }
         }
     }

@@ -1,5 +1,5 @@
 // A client's connection.
-ghost use Rattle.std.specs.Prelude.{◌≡◌, ◌≤◌, ◌<◌, ℕ, length};
+ghost use Rattle.std.specs.Prelude.{◌≡◌, ◌≤◌, ◌<◌, ◌⊎◌, ℕ, length};
 ghost use Rattle.host_base.specs.Outsides.{Rose};
 ghost use Rattle.socket_set.specs.Sockets.{ReceiveCause, SendCause};
 ghost use Rattle.socket_set.specs.declared.socket.Received.TheVariants.{Bytes};
@@ -23,6 +23,8 @@ pub struct TcpSocket {
     // The last read found that nothing has come, and the last write took nothing.
     dry: bool,
     full: bool,
+    // Once what has come was read, its end is taken to have come.
+    deaf: bool,
     // Our end was sent.
     ended: bool,
     faults: u64,
@@ -38,6 +40,7 @@ impl TcpSocket {
             room_watched: false,
             dry: false,
             full: false,
+            deaf: false,
             ended: false,
             faults: 0,
         }
@@ -72,10 +75,12 @@ impl TcpSocket {
         self.end();
     }
 
-    // Sends our end, once.
+    // Sends our end, once. What still comes may then be read, so that it can be dropped: the system answers a byte that is
+    // left by a reset, at which the client may lose what we sent.
     fn end(&mut self)
-        ensures { self.new ≡ record self.old { ended = self.new.ended } }
+        ensures { IsSameSocket self.old self.new }
     {
+        self.deaf = false;
         if !self.ended {
             self.ended = true;
             let _ = self.stream.shutdown(Shutdown::Write);
@@ -98,11 +103,22 @@ impl TcpSocket {
         match self.stream.read(into) {
             Ok(0) => Received::End,
             Ok(count) => Received::Bytes(count),
-            Err(error) if is_passing(error.kind()) => Received::Nothing,
+            Err(error) if is_passing(error.kind()) => self.nothing(),
             Err(_) => {
                 self.count();
                 Received::Failed
             }
+        }
+    }
+
+    // Nothing has come, or nothing more is to be heard.
+    fn nothing(&self) -> Received
+        ensures { result ≡ Received.Nothing ⊎ result ≡ Received.End }
+    {
+        if self.deaf {
+            Received::End
+        } else {
+            Received::Nothing
         }
     }
 
@@ -142,6 +158,12 @@ impl Socket for TcpSocket {
             Sent::Full | Sent::Failed => true,
         };
         sent
+    }
+
+    // The system's own call for this answers what comes later by a reset, so it isn't made.
+    #[tactic(auto, using(socket_set::proofs::Ends::nothing_cut))]
+    fn end_receiving(&mut self) {
+        self.deaf = true;
     }
 
     fn end_sending(&mut self) {

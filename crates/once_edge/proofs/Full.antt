@@ -7,37 +7,44 @@ use Rattle.host_trace.specs.declared.items.Event.TheVariants.{Accepted, ClientBy
 use Rattle.host_trace.specs.Told.{is_full_book}
 use Rattle.child_edge.specs.Kids.{KidTells}
 use Rattle.child_edge.specs.declared.row.Row.{Row}
-use Rattle.child_edge.specs.Rows.{OneSays, kept}
+use Rattle.child_edge.specs.Rows.{OneSays, Says, kept}
 use Rattle.socket_set.specs.Sockets.{SocketTells}
-use Rattle.once_edge.specs.Once.{OnceState, IsNew, IsFresh, IsOwed}
+use Rattle.once_edge.specs.Once.{OnceState, IsNew, IsFresh, IsDue, IsHeard, IsOwed}
 
 no_full : false ≡ true → ⊥
 no_full e = cc
 
 module _ {K : Type 0} where
+  no_row_full : (tells : K → KidTells) (k n : ℕ) (r s : Row K) → Says tells r s (StartFull k n) → ⊥
+  no_row_full tells k n r s h = elim h [ inl w ↦ w.due | inr w ↦ w.1.due ]
+
   no_child_full : (tells : K → KidTells) (k n : ℕ) (a b : List (Row K)) → OneSays tells (StartFull k n) a b → ⊥
   no_child_full tells k n [] b h = absurd h
   no_child_full tells k n (r ∷ a) [] h = absurd h
-  no_child_full tells k n (r ∷ a) (s ∷ b) h = elim h [ inl w ↦ w.0.due | inr w ↦ no_child_full tells k n a b w.1 ]
+  no_child_full tells k n (r ∷ a) (s ∷ b) h = elim h [ inl w ↦ no_row_full tells k n r s w.0 | inr w ↦ no_child_full tells k n a b w.1 ]
 
-  never_full : (tells : K → KidTells) (k n : ℕ) (a b : OnceState K) → IsOwed tells (StartFull k n) a b → ⊥
-  never_full tells k n a b h =
+  never_due : (k n : ℕ) (a b : OnceState K) → IsDue (StartFull k n) a b → ⊥
+  never_due k n a b h =
       elim h [
-        | inl due ↦ elim due [
+        | inl w ↦ no_full (sym (ap is_full_book w.event_is) ∙ refl)
+        | inr v ↦ elim v [
           | inl w ↦ no_full (sym (ap is_full_book w.event_is) ∙ refl)
-          | inr v ↦ elim v [
-            | inl w ↦ no_full (sym (ap is_full_book w.event_is) ∙ refl)
-            | inr w ↦ w.begins
-          ]
-        ]
-        | inr heard ↦ elim heard.1 [
-          | inl w ↦ w.says.due
-          | inr v ↦ elim v [
-            | inl w ↦ no_child_full tells k n (kept a.rows) b.rows w.says
-            | inr w ↦ no_full (sym (ap is_full_book w.0) ∙ refl)
-          ]
+          | inr w ↦ w.refuses
         ]
       ]
+
+  never_heard : (tells : K → KidTells) (k n : ℕ) (a b : OnceState K) → IsHeard tells (StartFull k n) a b → ⊥
+  never_heard tells k n a b h =
+      elim h [
+        | inl w ↦ w.says.due
+        | inr v ↦ elim v [
+          | inl w ↦ no_child_full tells k n (kept a.rows) b.rows w.says
+          | inr w ↦ no_full (sym (ap is_full_book w.0) ∙ refl)
+        ]
+      ]
+
+  never_full : (tells : K → KidTells) (k n : ℕ) (a b : OnceState K) → IsOwed tells (StartFull k n) a b → ⊥
+  never_full tells k n a b h = elim h [ inl w ↦ never_due k n w.mid b w.after | inr w ↦ never_heard tells k n w.mid b w.after ]
 
   pub full : (tells : K → KidTells) (e : Event) (a b : OnceState K) (X : Type 0) → IsOwed tells e a b → is_full_book e ≡ true → X
   full tells (StartFull k n) a b X h f = absurd (never_full tells k n a b h)

@@ -7,12 +7,13 @@ use Rattle.host_trace.specs.declared.items.Event.TheVariants.{StartFailed, Stop}
 use Rattle.child_edge.specs.Kids.{KidTells}
 use Rattle.child_edge.specs.declared.row.Row.{Row}
 use Rattle.child_edge.specs.Rows.{OneSays, Each, Rests, IsQuiet as IsQuietRow, kept, is_kept, runs}
-use Rattle.child_edge.proofs.Steps.{stays_two, marks_two, says_two as row_says_two}
+use Rattle.child_edge.proofs.Steps.{stays_two, marks_two}
+use Rattle.child_edge.proofs.Later.{says_later as row_says_two}
 use Rattle.child_edge.proofs.Lists.{each_stays}
 use Rattle.socket_set.specs.Clients.{ClientState, Says, Rests as ClientRests}
 use Rattle.socket_set.proofs.Sets.{rests_self, rests_two, says_two}
 use Rattle.once_edge.specs.declared.asked.Asked.{Asked}
-use Rattle.once_edge.specs.Once.{OnceState, ChildrenRest, SameDue, SameRest, StartFails, StartWants, IsBegun, IsQuiet, Counts, CutCounts, OfClient, OfChild, IsHeard, Counted, OnClient, OnChildren}
+use Rattle.once_edge.specs.Once.{OnceState, ChildrenRest, SameDue, SameRest, StartFails, StartWants, IsRefused, IsQuiet, Counts, CutCounts, OfClient, OfChild, IsHeard, Counted, OnClient, OnChildren}
 
 -- a list whose items all pass
 keep_head : {A : Type 0} (p : A → Bool) (x : A) (xs : List A) → p x ≡ true → filter p xs ≡ xs → filter p (x ∷ xs) ≡ x ∷ xs
@@ -287,17 +288,17 @@ module _ {K : Type 0} where
       (record { counts = record { limit = refl; room = refl; grown = omega arith; cut = inl refl }; failure = λ f. absurd (not_true f) })
 
   -- a start that failed, and one that found no memory once the client was shut
-  pub begin_fails : (tells : K → KidTells) (asked : Asked) (e : Event) (a d : OnceState K) → e ≡ StartFailed asked.k
-      → StartFails a d → d.unstarted ≡ a.unstarted → d.starts ≡ a.starts → SameRest a d → IsBegun tells asked e a d
-  begin_fails tells asked e a d same fails u s r =
-      subst (λ w. IsBegun tells asked w a d) (sym same)
-      (record { begins = (refl, inr (inl fails)); unstarted = u; starts = s; rest = r })
+  pub begin_fails : (asked : Asked) (e : Event) (a d : OnceState K) → e ≡ StartFailed asked.k
+      → StartFails a d → d.unstarted ≡ a.unstarted → d.starts ≡ a.starts → SameRest a d → IsRefused asked e a d
+  begin_fails asked e a d same fails u s r =
+      subst (λ w. IsRefused asked w a d) (sym same)
+      (record { refuses = (refl, inr (inl fails)); unstarted = u; starts = s; rest = r })
 
-  pub begin_wants : (tells : K → KidTells) (asked : Asked) (e : Event) (a d : OnceState K) → e ≡ StartFailed asked.k
-      → a.client.shut ≡ true → StartWants a d → d.unstarted ≡ a.unstarted → d.starts ≡ a.starts → SameRest a d → IsBegun tells asked e a d
-  begin_wants tells asked e a d same shut wants u s r =
-      subst (λ w. IsBegun tells asked w a d) (sym same)
-      (record { begins = (refl, inr (inr (shut, wants))); unstarted = u; starts = s; rest = r })
+  pub begin_wants : (asked : Asked) (e : Event) (a d : OnceState K) → e ≡ StartFailed asked.k
+      → a.client.shut ≡ true → StartWants a d → d.unstarted ≡ a.unstarted → d.starts ≡ a.starts → SameRest a d → IsRefused asked e a d
+  begin_wants asked e a d same shut wants u s r =
+      subst (λ w. IsRefused asked w a d) (sym same)
+      (record { refuses = (refl, inr (inr (shut, wants))); unstarted = u; starts = s; rest = r })
 
   -- the same of what may have been told
   pub later : (tells : K → KidTells) (r : Option Event) (a b d : OnceState K) → IsQuiet tells a b × Counts a b

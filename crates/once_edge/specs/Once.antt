@@ -4,7 +4,7 @@ use Rattle.host_base.specs.Outsides.{Rose}
 use Rattle.host_base.specs.declared.launch.Launch.{Launch}
 use Rattle.host_base.specs.declared.launch.Peer.{Peer}
 use Rattle.host_trace.specs.declared.items.Event.{Event}
-use Rattle.host_trace.specs.declared.items.Event.TheVariants.{Accepted, Started, StartFailed, NoRoom, Stop}
+use Rattle.host_trace.specs.declared.items.Event.TheVariants.{Accepted, StartFailed, NoRoom, Stop}
 use Rattle.host_trace.specs.declared.items.Act.{Act}
 use Rattle.host_trace.specs.declared.items.Act.TheVariants.{WantClient, Write, Shut, Start, Feed, EndInput, WantChild, Kill, Release, Upgrade, Says as SaysTexts, CloseWs}
 use Rattle.host_trace.specs.declared.items.Item.{Item}
@@ -16,7 +16,7 @@ use Rattle.child_edge.specs.Kids.{KidTells}
 use Rattle.child_edge.specs.declared.row.Row.{Row}
 use Rattle.child_edge.specs.Rows.{OneSays, Each, Rests, OnKept, Feeds, Changes, Kills, Releases, StartsRow, want_marks, end_marks, kept, is_kept, runs}
 use Rattle.child_edge.specs.declared.starts.StartCounts.{StartCounts}
-use Rattle.child_edge.specs.Starts.{no_starts, has_started, has_failed, has_wanted}
+use Rattle.child_edge.specs.Starts.{Between, Repeats, no_starts, has_started, has_failed, has_wanted}
 use Rattle.socket_set.specs.Clients.{ClientState, Says, Rests as ClientRests, IsNewClient, UnlessShut, WantsMore, Writes, Upgrades, Frames, Shuts}
 use Rattle.socket_set.specs.Sockets.{SocketTells}
 use Rattle.once_edge.specs.declared.asked.Asked.{Asked}
@@ -172,15 +172,18 @@ module _ {K : Type 0} where
     pub tried : new.tried ≡ has_wanted old.tried
     pub rows : new.rows ≡ kept old.rows
 
-  -- What a start of child k of connection c by a launch is answered with, by what it did to the children. Where no memory was found,
-  -- NoRoom is told, and where the client was shut, StartFailed.
-  abbrev pub Begins : (K → KidTells) → ℕ → ℕ → Launch → Event → OnceState K → OnceState K → Type 0
-  Begins tells k c launch (Started j) old new =
-      (j ≡ k) × (new.tried ≡ has_started old.tried) × StartsRow tells k c launch (kept old.rows) new.rows
-  Begins tells k c launch (StartFailed j) old new =
+  -- Why the start of child k of connection c is refused, by what it did to the children. Where no memory was found, NoRoom
+  -- is told, and where the client was shut, StartFailed.
+  abbrev pub Refuses : ℕ → ℕ → Event → OnceState K → OnceState K → Type 0
+  Refuses k c (StartFailed j) old new =
       (j ≡ k) × (HadNoRoom old new ⊎ StartFails old new ⊎ ((old.client.shut ≡ true) × StartWants old new))
-  Begins tells k c launch (NoRoom d) old new = (d ≡ c) × (old.client.shut ≡ false) × StartWants old new
-  Begins tells k c launch _ old new = ⊥
+  Refuses k c (NoRoom d) old new = (d ≡ c) × (old.client.shut ≡ false) × StartWants old new
+  Refuses k c _ old new = ⊥
+
+  -- the start of child k of connection c by a launch was handed over, and nothing of it is told yet
+  pub record Begins (tells : K → KidTells) (k c : ℕ) (launch : Launch) (old new : OnceState K) : Type 0 where
+    pub tried : new.tried ≡ has_started old.tried
+    pub row : StartsRow tells k c launch (kept old.rows) new.rows
 
   -- what a start leaves as it was
   pub record SameRest (old new : OnceState K) : Type 0 where
@@ -188,20 +191,36 @@ module _ {K : Type 0} where
     pub peer : new.peer ≡ old.peer
     pub stopped : new.stopped ≡ old.stopped
 
-  -- a child was tried to be started
-  pub record IsBegun (tells : K → KidTells) (asked : Asked) (event : Event) (old new : OnceState K) : Type 0 where
-    pub begins : Begins tells asked.k asked.c asked.launch event old new
+  -- a start was refused
+  pub record IsRefused (asked : Asked) (event : Event) (old new : OnceState K) : Type 0 where
+    pub refuses : Refuses asked.k asked.c event old new
     pub unstarted : new.unstarted ≡ unstarted_by event asked.k old.unstarted
     pub starts : new.starts ≡ old.starts
     pub rest : SameRest old new
 
-  -- the first child that was asked for was tried to be started, once all before it were answered
-  pub record OfStart (tells : K → KidTells) (event : Event) (old new : OnceState K) : Type 0 where
+  -- a start was handed over
+  pub record IsBegun (tells : K → KidTells) (asked : Asked) (old new : OnceState K) : Type 0 where
+    pub begins : Begins tells asked.k asked.c asked.launch old new
+    pub unstarted : new.unstarted ≡ old.unstarted
+    pub starts : new.starts ≡ old.starts
+    pub rest : SameRest old new
+
+  -- the start of the first child that was asked for was refused, once all before it were answered or handed over
+  pub record OfStart (event : Event) (old new : OnceState K) : Type 0 where
     pub asked : Asked
     pub answered : old.unstarted ≡ None
     pub first : old.starts ≡ asked ∷ new.starts
-    pub begins : Begins tells asked.k asked.c asked.launch event old new
+    pub refuses : Refuses asked.k asked.c event old new
     pub unstarted : new.unstarted ≡ unstarted_by event asked.k old.unstarted
+    pub rest : SameRest old new
+
+  -- .. or it was handed over
+  pub record HandsOver (tells : K → KidTells) (old new : OnceState K) : Type 0 where
+    pub asked : Asked
+    pub answered : old.unstarted ≡ None
+    pub first : old.starts ≡ asked ∷ new.starts
+    pub begins : Begins tells asked.k asked.c asked.launch old new
+    pub unstarted : new.unstarted ≡ None
     pub rest : SameRest old new
 
   -- the client connected
@@ -219,23 +238,33 @@ module _ {K : Type 0} where
     pub told : new ≡ record old { unstarted = None; faults = new.faults }
 
   -- what is due before anything is waited for
-  abbrev pub IsDue : (K → KidTells) → Event → OnceState K → OnceState K → Type 0
-  IsDue tells event old new = OfPeer event old new ⊎ OfUnstarted event old new ⊎ OfStart tells event old new
+  abbrev pub IsDue : Event → OnceState K → OnceState K → Type 0
+  IsDue event old new = OfPeer event old new ⊎ OfUnstarted event old new ⊎ OfStart event old new
 
   -- what is waited for
   abbrev pub IsHeard : (K → KidTells) → Event → OnceState K → OnceState K → Type 0
   IsHeard tells event old new = OfClient tells event old new ⊎ OfChild tells event old new ⊎ ((event ≡ Stop) × IsOver tells old new)
 
-  -- the client was told to have connected, and every start was answered
+  -- the client was told to have connected, and every start was answered or handed over
   pub record HasNoneDue (s : OnceState K) : Type 0 where
     pub peer : s.peer ≡ None
     pub unstarted : s.unstarted ≡ None
     pub starts : s.starts ≡ []
 
+  -- starts that were asked for were handed over, up to one that is refused, or none where something else is due
+  abbrev pub IsTold : (K → KidTells) → Event → OnceState K → OnceState K → Type 0
+  IsTold tells event old new = Between (λ mid. Repeats (HandsOver tells) old mid) (λ mid. IsDue event mid new)
+
+  -- all starts that were asked for were handed over
+  pub record AllHanded (tells : K → KidTells) (old new : OnceState K) : Type 0 where
+    pub handed : Repeats (HandsOver tells) old new
+    pub none_due : HasNoneDue new
+
   -- The event is owed: it has a cause in what was asked and what was heard, and is told once. What is due comes before
-  -- what is waited for.
+  -- what is waited for, and so does each start that was asked for.
   abbrev pub IsOwed : (K → KidTells) → Event → OnceState K → OnceState K → Type 0
-  IsOwed tells event old new = IsDue tells event old new ⊎ (HasNoneDue old × IsHeard tells event old new)
+  IsOwed tells event old new =
+      IsTold tells event old new ⊎ Between (λ mid. AllHanded tells old mid) (λ mid. IsHeard tells event mid new)
 
   -- an event of failure comes only where the count of faults rose
   pub record Counted (event : Event) (old new : OnceState K) : Type 0 where

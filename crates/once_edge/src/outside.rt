@@ -12,7 +12,6 @@ use socket_set::Client;
 use std::alloc::Global;
 use std::marker::Model;
 use std::sync::Wait;
-use std::thread::yield_now;
 use std::time::{Clock, Duration};
 
 // How many bytes of the client are taken at a time at first: most requests are shorter, and each page that is touched
@@ -22,14 +21,8 @@ const SMALL: usize = 4_096;
 // .. and once a piece was as long as that.
 const LARGE: usize = 65_536;
 
-// How often it lets others run before it sleeps. An exit comes 50 to 120 microseconds after the end of the output, and
-// a turn takes about one.
-const TURNS: u64 = 64;
-
-// The shortest and the longest sleep, in microseconds. What the bell doesn't tell, as an exit, is asked for after each.
-const LEAST: u64 = 100;
-
-const MOST: u64 = 100_000;
+// The longest sleep, in milliseconds. What the bell doesn't tell is asked for after it.
+const MOST: u64 = 100;
 
 /// One connection and its children. It has no clock.
 #[derive(Drop)]
@@ -38,10 +31,6 @@ pub struct OnceOutside<R, S: Spawner, P: PipeIn + Drop, K: Sink> {
     alloc: Global,
     // What wakes it: the pumps of the client and of the children.
     sleeper: Parker,
-    // How often it let others run since the last event, up to `TURNS`.
-    turns: u64,
-    // How many microseconds it sleeps next.
-    pause: u64,
     client: Client<StdioSocket<P, K>>,
     children: ChildSet<S>,
     peer: Option<Peer>,
@@ -89,11 +78,11 @@ impl<
     ghost use Rattle.std.specs.Prelude.{◌≡◌, ◌≤◌, ◌<◌, ◌⊎◌, [], true, false, Some, None, length, count_by, IfOk, IfSome, IsSome, IsNone, OnOk, OnErr, is_ok};
     ghost use Rattle.host_base.specs.Outsides.{Rose};
     ghost use Rattle.host_trace.specs.Told.{is_failure, carries_nothing};
-    ghost use Rattle.child_edge.specs.Rows.{OneSays, Each, IsQuiet as IsQuietRow, kept, runs};
+    ghost use Rattle.child_edge.specs.Rows.{OneSays, Each, IsQuiet as IsQuietRow, AreEnded, kept, runs};
     ghost use Rattle.child_edge.specs.Starts.{no_starts};
     ghost use Rattle.socket_set.specs.Clients.{Says, Rests};
     ghost use Rattle.once_edge.specs.Stdio.{socket_tells};
-    ghost use Rattle.once_edge.specs.Once.{OnceState, IsNew, IsQuiet, Counts, IsDue, HasNoneDue, IsHeard, IsOwed, Counted, OfClient, OfChild, OfStart, IsBegun, Acts, Asks, OnClient, OnChildren, is_on_child, is_on_client};
+    ghost use Rattle.once_edge.specs.Once.{OnceState, IsNew, IsQuiet, Counts, HandsOver, AllHanded, IsTold, IsHeard, IsOwed, Counted, OfClient, OfChild, OfStart, IsBegun, IsRefused, Acts, Asks, OnClient, OnChildren, is_on_child, is_on_client};
 
     /// A connection of which nothing was told, over children of which none was started. Whoever writes to its client
     /// or starts its children has a bell of the sleeper.
@@ -116,8 +105,6 @@ impl<
             rt,
             alloc,
             sleeper,
-            turns: 0,
-            pause: LEAST,
             client: Client::new(alloc, socket),
             children,
             peer: Some(peer),
@@ -171,11 +158,7 @@ impl<
         ensures none { IsNone result → IsQuiet S.Kid.tells self.old self.new × Counts self.old self.new }
     {
         match self.hear() {
-            Some(event) => {
-                self.turns = 0;
-                self.pause = LEAST;
-                Some(event)
-            }
+            Some(event) => Some(event),
             None => {
                 self.sleep();
                 None
@@ -186,20 +169,18 @@ impl<
     fn sleep(&mut self)
         ensures { self.new ≡ self.old }
     {
-        if self.turns < TURNS {
-            self.turns += 1;
-            yield_now();
-            return;
-        }
         self.sleeper
-            .park_timeout(&self.rt, Duration::from_micros(self.pause));
-        self.pause = self.pause.saturating_mul(2).min(MOST);
+            .park_timeout(&self.rt, Duration::from_millis(MOST));
     }
 
-    // What is told before anything is waited for.
+    // What is told before anything is waited for. The starts that were asked for are handed over, up to one that is
+    // refused.
+    #[tactic(auto, using(crate::proofs::Handed::told_first))]
     fn tell_due(&mut self) -> Option<Event>
-        ensures some { IfSome result (λ event. IsDue S.Kid.tells event self.old self.new × Counted event self.old self.new) }
-        ensures none { IsNone result → (self.new ≡ self.old) × HasNoneDue self.old }
+        ensures told { IfSome result (λ event. IsTold S.Kid.tells event self.old self.new) }
+        ensures handed { IsNone result → AllHanded S.Kid.tells self.old self.new }
+        ensures counted { IfSome result (λ event. Counted event self.old self.new) }
+        ensures counts { Counts self.old self.new }
     {
         if let Some(peer) = self.peer.take() {
             return Some(Event::Accepted { peer });
@@ -207,10 +188,7 @@ impl<
         if let Some(k) = self.unstarted.take() {
             return Some(self.fail(k));
         }
-        if self.starts.is_empty() {
-            return None;
-        }
-        Some(self.start_first())
+        self.hand_over()
     }
 
     // Tells that child k was not started, and counts it.
@@ -224,31 +202,53 @@ impl<
         Event::StartFailed { k }
     }
 
-    // Tries to start the first that was asked for.
-    fn start_first(&mut self) -> Event
+    // Hands over the starts that were asked for, up to one that is refused.
+    #[tactic(auto, using(crate::proofs::Handed::none_handed, crate::proofs::Handed::one_handed, crate::proofs::Handed::all_handed, crate::proofs::Handed::told_behind, crate::proofs::Quiet::counts_self, crate::proofs::Quiet::counts_two, crate::proofs::Quiet::counted_later))]
+    fn hand_over(&mut self) -> Option<Event>
+        requires connected { self.old.peer ≡ None }
+        requires answered { self.old.unstarted ≡ None }
+        ensures told { IfSome result (λ event. IsTold S.Kid.tells event self.old self.new) }
+        ensures handed { IsNone result → AllHanded S.Kid.tells self.old self.new }
+        ensures counted { IfSome result (λ event. Counted event self.old self.new) }
+        ensures counts { Counts self.old self.new }
+    {
+        while !self.starts.is_empty() {
+            if let Some(event) = self.start_first() {
+                return Some(event);
+            }
+        }
+        None
+    }
+
+    // Tries to hand over the first start that was asked for.
+    fn start_first(&mut self) -> Option<Event>
         requires some { 0 < length self.old.starts }
         requires answered { self.old.unstarted ≡ None }
-        ensures start { OfStart S.Kid.tells result self.old self.new }
-        ensures counted { Counted result self.old self.new }
+        ensures refused { IfSome result (λ event. OfStart event self.old self.new) }
+        ensures handed { IsNone result → HandsOver S.Kid.tells self.old self.new }
+        ensures counted { IfSome result (λ event. Counted event self.old self.new) }
+        ensures counts { Counts self.old self.new }
     {
         let asked = self.starts.remove(0);
         self.begin(&asked)
     }
 
-    fn begin(&mut self, asked: &Asked) -> Event
-        ensures begins { IsBegun S.Kid.tells asked.now result self.old self.new }
-        ensures counted { Counted result self.old self.new }
+    fn begin(&mut self, asked: &Asked) -> Option<Event>
+        ensures refused { IfSome result (λ event. IsRefused asked.now event self.old self.new) }
+        ensures begun { IsNone result → IsBegun S.Kid.tells asked.now self.old self.new }
+        ensures counted { IfSome result (λ event. Counted event self.old self.new) }
+        ensures counts { Counts self.old self.new }
     {
         if !self.children.has_room() {
-            return self.fail(asked.k);
+            return Some(self.fail(asked.k));
         }
         match self.children.start(asked.k, asked.c, &asked.launch) {
-            Ok(()) => Event::Started { k: asked.k },
-            Err(SpawnFault::Failed) => self.fail(asked.k),
-            Err(SpawnFault::NoMemory) if self.client.is_shut() => self.fail(asked.k),
+            Ok(()) => None,
+            Err(SpawnFault::Failed) => Some(self.fail(asked.k)),
+            Err(SpawnFault::NoMemory) if self.client.is_shut() => Some(self.fail(asked.k)),
             Err(SpawnFault::NoMemory) => {
                 self.unstarted = Some(asked.k);
-                Event::NoRoom { c: asked.c }
+                Some(Event::NoRoom { c: asked.c })
             }
         }
     }
@@ -515,8 +515,9 @@ impl<
         Acted::Done
     }
 
-    /// Kills and reaps every child that is left. None is kept.
+    /// Waits for the children that are being started, kills and reaps every child that is left. None is kept.
     pub fn end(&mut self)
+        ensures ended { AreEnded S.Kid.tells self.old.rows }
         ensures none { self.new.rows ≡ [] }
         ensures rest { self.new ≡ record self.old { rows = []; failed = self.new.failed } }
         ensures grown { self.old.failed ≤ self.new.failed }

@@ -88,7 +88,7 @@ impl<P: PipeIn + Drop, K: Sink> Socket for StdioSocket<P, K> {
     ghost use Rattle.std.specs.Prelude.{◌≡◌, ◌≤◌, ◌<◌, ◌++◌, ℕ, Some, None, is_some, true, length, take};
     ghost use Rattle.pipe_pump.specs.declared.ends.PumpEnd.{PumpEnd};
     ghost use Rattle.pump_pool.specs.Pumps.{output_of};
-    ghost use Rattle.socket_set.specs.Sockets.{Receives, Sends};
+    ghost use Rattle.socket_set.specs.Sockets.{EndsReceiving, Receives, Sends};
     ghost use Rattle.socket_set.specs.declared.socket.Received.TheVariants.{Bytes};
     ghost use Rattle.socket_set.specs.declared.socket.Sent.TheVariants.{Took};
     ghost use Rattle.once_edge.specs.Stdio.{socket_tells, heard_by, heard_in, all_heard, Gave, IsDry, Ends, Puts};
@@ -127,7 +127,7 @@ impl<P: PipeIn + Drop, K: Sink> Socket for StdioSocket<P, K> {
                 Received::Nothing
             }
             Some(PumpEnd::AtEnd) => Received::End,
-            Some(PumpEnd::Broken | PumpEnd::Spent | PumpEnd::Abandoned) => {
+            Some(PumpEnd::Broken | PumpEnd::Spent | PumpEnd::Abandoned | PumpEnd::LetGo) => {
                 self.count();
                 Received::Failed
             }
@@ -154,6 +154,12 @@ impl<P: PipeIn + Drop, K: Sink> Socket for StdioSocket<P, K> {
             }
         }
     }
+
+    // One connection is served to its end.
+    #[tactic(auto, using(socket_set::proofs::Ends::nothing_cut))]
+    fn end_receiving(&mut self)
+        ensures { EndsReceiving (socket_tells self.old) (socket_tells self.new) }
+    {}
 
     fn end_sending(&mut self)
         ensures same { socket_tells self.new ≡ socket_tells self.old }

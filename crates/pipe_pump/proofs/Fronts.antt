@@ -9,8 +9,8 @@ use Rattle.pipe_pump.specs.declared.hand.Hand.{Hand}
 use Rattle.pipe_pump.specs.Hands.{mark_of}
 use Rattle.host_base.specs.Outsides.{Rose}
 use Rattle.pipe_pump.specs.declared.ends.PumpEnd.{PumpEnd}
-use Rattle.pipe_pump.specs.declared.ends.PumpEnd.TheVariants.{AtEnd, Broken, Spent, Abandoned}
-use Rattle.pipe_pump.specs.Moved.{TookFront, Moves, MovesFront, Stops}
+use Rattle.pipe_pump.specs.declared.ends.PumpEnd.TheVariants.{AtEnd, Broken, Spent, Abandoned, LetGo}
+use Rattle.pipe_pump.specs.Moved.{TookFront, Moves, MovesFront, Stops, Cuts}
 
 -- a piece after a piece
 pub joined : (b m a : Option (List ℕ)) (xs ys : List ℕ) → Appends b m xs → Appends m a ys → Appends b a (xs ++ ys)
@@ -101,6 +101,23 @@ stops_two E A AtEnd b m a f g h xs ys zs p q r = absurd r.0
 stops_two E A Broken b m a f g h xs ys zs p q r = (front_two b m a xs ys zs p r.0, rose_later f g h q r.1)
 stops_two E A Spent b m a f g h xs ys zs p q r = (moves_two b m a xs ys zs p r.0, r.1)
 stops_two E A Abandoned b m a f g h xs ys zs p q r = absurd r.0
+stops_two E A LetGo b m a f g h xs ys zs p q r = front_two b m a xs ys zs p r
+
+-- a pipe that cut a piece off
+pub cut_stops : (E A : Type 0) (end : PumpEnd) (b a : Option (List ℕ)) (f g : ℕ) (xs ys : List ℕ) → MovesFront b a xs ys → Cuts end f g → Stops E A end b a f g xs ys
+cut_stops E A AtEnd b a f g xs ys p c = absurd c
+cut_stops E A Broken b a f g xs ys p c = (p, c)
+cut_stops E A Spent b a f g xs ys p c = absurd c
+cut_stops E A Abandoned b a f g xs ys p c = absurd c
+cut_stops E A LetGo b a f g xs ys p c = p
+
+-- .. after other calls of it
+pub cuts_later : (end : PumpEnd) (f g h : ℕ) → f ≤ g → Cuts end g h → Cuts end f h
+cuts_later AtEnd f g h k c = c
+cuts_later Broken f g h k c = rose_later f g h k c
+cuts_later Spent f g h k c = c
+cuts_later Abandoned f g h k c = c
+cuts_later LetGo f g h k c = c
 
 pub marked_before : (before : List Hand) → is_some (mark_of before) ≡ true → before ≡ [] → ⊥
 marked_before [] h e = cc

@@ -9,9 +9,10 @@ use Rattle.rtrb.specs.Ring.{sent}
 use Rattle.rtrb.specs.declared.producer.Producer.{Producer}
 use Rattle.rtrb.specs.declared.AnyItems.{AnyItems}
 use Rattle.pipe_pump.specs.declared.ends.PumpEnd.{PumpEnd}
-use Rattle.pipe_pump.specs.declared.ends.PumpEnd.TheVariants.{AtEnd, Broken, Spent, Abandoned}
+use Rattle.pipe_pump.specs.declared.ends.PumpEnd.TheVariants.{AtEnd, Broken, Spent, Abandoned, LetGo}
 use Rattle.pipe_pump.specs.declared.pipe.PipeRead.{PipeRead}
 use Rattle.pipe_pump.specs.declared.pipe.PipeRead.TheVariants.{Bytes, End, Failed}
+use Rattle.pipe_pump.specs.declared.pipe.PipeRead.TheVariants as ReadAs
 use Rattle.pipe_pump.specs.Pipes.{Reads}
 use Rattle.pipe_pump.specs.Rings.{popped}
 use Rattle.pipe_pump.specs.Moved.{Gives, GivesMore, Sends, SendsPart, SendEnds, KnownEnd, Takes, Moves, Stops}
@@ -23,6 +24,7 @@ pub reads_more : (b a : Option (List ℕ)) (into rest : List ℕ) (r : PipeRead)
 reads_more b a into rest (Bytes n) h g = rw (take-append-le n into rest (h n refl)) g
 reads_more b a into rest End h g = g
 reads_more b a into rest Failed h g = g
+reads_more b a into rest ReadAs.LetGo h g = g
 
 -- .. and in the buffer that such bytes were put back into
 pub reads_back : (b a : Option (List ℕ)) (bytes rest : List ℕ) (n : ℕ) (r : PipeRead) → length bytes ≡ n → Reads b a bytes r → Reads b a (take n (bytes ++ rest)) r
@@ -68,6 +70,7 @@ known_later (Some AtEnd) last a f m n k e h = (e, k.1)
 known_later (Some Broken) last a f m n k e h = (e, rose_later f m n h k.1)
 known_later (Some Spent) last a f m n k e h = absurd (cc)
 known_later (Some Abandoned) last a f m n k e h = absurd k
+known_later (Some LetGo) last a f m n k e h = e
 
 -- an end that is known before the ring has all
 pub send_known : (e : Option PumpEnd) (last : Bool) (a : Option (List ℕ)) (f n : ℕ) → KnownEnd last a f n e → SendEnds last a f n e
@@ -76,6 +79,7 @@ send_known (Some AtEnd) last a f n k = k
 send_known (Some Broken) last a f n k = k
 send_known (Some Spent) last a f n k = k
 send_known (Some Abandoned) last a f n k = tt
+send_known (Some LetGo) last a f n k = k
 
 pub sends_known : (e : Option PumpEnd) (last : Bool) (a : Option (List ℕ)) (f n : ℕ) (old now : Producer ℕ Global AnyItems) (piece : List ℕ)
     → KnownEnd last a f n e → sent now ≡ sent old ++ piece → Sends e old now piece
@@ -84,6 +88,7 @@ sends_known (Some AtEnd) last a f n old now piece k s = s
 sends_known (Some Broken) last a f n old now piece k s = s
 sends_known (Some Spent) last a f n old now piece k s = s
 sends_known (Some Abandoned) last a f n old now piece k s = absurd k
+sends_known (Some LetGo) last a f n old now piece k s = s
 
 -- what a pump that ends with a piece gave
 pub gives_last : (end : PumpEnd) (b m n a : Option (List ℕ)) (old now : Producer ℕ Global AnyItems) (piece : List ℕ)
@@ -92,6 +97,7 @@ gives_last AtEnd b m n a old now piece g h k s = rw s (gave_three b m n a (sent 
 gives_last Broken b m n a old now piece g h k s = rw s (gave_three b m n a (sent old) piece g h k)
 gives_last Spent b m n a old now piece g h k s = rw s (gave_three b m n a (sent old) piece g h k)
 gives_last Abandoned b m n a old now piece g h k s = gives_more b m n a old now piece g h k s
+gives_last LetGo b m n a old now piece g h k s = rw s (gave_three b m n a (sent old) piece g h k)
 
 is_most : (n : ℕ) → nat_eq n (2 ^ 62) ≡ true → n ≡ 2 ^ 62
 is_most n h = grind (arith, nat_tests)
@@ -111,6 +117,8 @@ spent_last Broken a f g old now piece total s e t m =
 spent_last Spent a f g old now piece total s e t m = (λ x. grew old now piece total s t ∙ is_most total e, λ x. refl)
 spent_last Abandoned a f g old now piece total s e t m =
     (λ x. absurd (cc), λ x. absurd (let h : length (sent now) < 2 ^ 62 = part_below old now piece total (2 ^ 62) s (omega arith) in omega arith))
+spent_last LetGo a f g old now piece total s e t m =
+    (λ x. absurd (cc), λ x. absurd (below_spent (length (sent now)) total (grew old now piece total s t) m e x))
 
 -- what a pump that moved bytes from the first on took
 pub takes_all : (E A : Type 0) (end : PumpEnd) (b m a : Option (List ℕ)) (f g : ℕ) (xs ys : List ℕ)
@@ -119,13 +127,15 @@ takes_all E A AtEnd b m a f g xs ys p s = let w = moves_two b m a [] xs ys p s.1
 takes_all E A Broken b m a f g xs ys p s = let w = front_two b m a [] xs ys p s.0 in rw w.grew w.took
 takes_all E A Spent b m a f g xs ys p s = let w = moves_two b m a [] xs ys p s.0 in rw w.grew w.took
 takes_all E A Abandoned b m a f g xs ys p s = let w = moves_two b m a [] xs ys p s.1 in rw w.grew w.took
+takes_all E A LetGo b m a f g xs ys p s = let w = front_two b m a [] xs ys p s in rw w.grew w.took
 
 whole_fed : (before now : List ℕ) (end : PumpEnd) (bytes : List ℕ) → now ≡ before ++ bytes → FedPipe before now end bytes
 whole_fed before now end bytes e =
-    record { front = (length bytes, e ∙ ap (λ w. before ++ w) (sym (take-length bytes))); all = λ _. e }
+    record { front = (length bytes, e ∙ ap (λ w. before ++ w) (sym (take-length bytes))); all = λ _ _. e }
 
 pub feeds_arrive_in_order : FeedsArriveInOrder
 feeds_arrive_in_order before now AtEnd ring t = whole_fed before now AtEnd (popped ring) t
-feeds_arrive_in_order before now Broken ring t = record { front = (t.count, t.took); all = λ n. absurd (n refl) }
+feeds_arrive_in_order before now Broken ring t = record { front = (t.count, t.took); all = λ n _. absurd (n refl) }
+feeds_arrive_in_order before now LetGo ring t = record { front = (t.count, t.took); all = λ _ n. absurd (n refl) }
 feeds_arrive_in_order before now Spent ring t = whole_fed before now Spent (popped ring) t
 feeds_arrive_in_order before now Abandoned ring t = whole_fed before now Abandoned (popped ring) t

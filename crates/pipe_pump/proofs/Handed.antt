@@ -1,5 +1,5 @@
 -- What a pump gave back.
-use Rattle.std.proofs.Common.{◌≡◌, ◌∙◌}
+use Rattle.std.proofs.Common.{◌∙◌}
 use Rattle.pipe_pump.specs.declared.ends.RingEnd.{RingEnd}
 use Rattle.pipe_pump.specs.declared.ends.RingEnd.TheVariants.{Output, Input}
 use Rattle.pipe_pump.specs.declared.feed_ring.FeedRing.{FeedRing}

@@ -7,7 +7,7 @@ use Rattle.rtrb.specs.Ring.{sent, known_free}
 use Rattle.rtrb.specs.declared.producer.Producer.{Producer}
 use Rattle.rtrb.specs.declared.AnyItems.{AnyItems}
 use Rattle.pipe_pump.specs.declared.ends.PumpEnd.{PumpEnd}
-use Rattle.pipe_pump.specs.declared.ends.PumpEnd.TheVariants.{AtEnd, Broken, Spent, Abandoned}
+use Rattle.pipe_pump.specs.declared.ends.PumpEnd.TheVariants.{AtEnd, Broken, Spent, Abandoned, LetGo}
 
 -- ---- from a pipe to a ring
 
@@ -23,6 +23,7 @@ Gives AtEnd before after bytes = Consumes before after bytes
 Gives Broken before after bytes = Consumes before after bytes
 Gives Spent before after bytes = Consumes before after bytes
 Gives Abandoned before after bytes = GivesMore before after bytes
+Gives LetGo before after bytes = Consumes before after bytes
 
 -- a front of the piece was put into the ring, which is then full, and some of it was not
 pub record SendsPart (before after : Producer ℕ Global AnyItems) (piece : List ℕ) : Type 0 where
@@ -38,6 +39,7 @@ Sends (Some AtEnd) before after piece = sent after ≡ sent before ++ piece
 Sends (Some Broken) before after piece = sent after ≡ sent before ++ piece
 Sends (Some Spent) before after piece = sent after ≡ sent before ++ piece
 Sends (Some Abandoned) before after piece = SendsPart before after piece
+Sends (Some LetGo) before after piece = sent after ≡ sent before ++ piece
 
 -- how a pump is known to end with a piece: it is the last that it may move, or as the pipe made it end
 abbrev pub KnownEnd : Bool → Option (List ℕ) → ℕ → ℕ → Option PumpEnd → Type 0
@@ -46,6 +48,7 @@ KnownEnd is_last after before now (Some AtEnd) = (is_last ≡ false) × IsAtEnd 
 KnownEnd is_last after before now (Some Broken) = (is_last ≡ false) × Rose before now
 KnownEnd is_last after before now (Some Spent) = is_last ≡ true
 KnownEnd is_last after before now (Some Abandoned) = ⊥
+KnownEnd is_last after before now (Some LetGo) = is_last ≡ false
 
 -- .. or the tap was dropped
 abbrev pub SendEnds : Bool → Option (List ℕ) → ℕ → ℕ → Option PumpEnd → Type 0
@@ -54,6 +57,7 @@ SendEnds is_last after before now (Some AtEnd) = KnownEnd is_last after before n
 SendEnds is_last after before now (Some Broken) = KnownEnd is_last after before now (Some Broken)
 SendEnds is_last after before now (Some Spent) = KnownEnd is_last after before now (Some Spent)
 SendEnds is_last after before now (Some Abandoned) = ⊤
+SendEnds is_last after before now (Some LetGo) = KnownEnd is_last after before now (Some LetGo)
 
 -- ---- from a ring to a pipe
 
@@ -62,12 +66,13 @@ pub record TookFront (before after : Option (List ℕ)) (bytes : List ℕ) : Typ
   pub count : ℕ
   pub took : Appends before after (take count bytes)
 
--- what the pipe took is what was taken out of the ring; where it failed, a front of it
+-- what the pipe took is what was taken out of the ring; where it failed or was let go, a front of it
 abbrev pub Takes : PumpEnd → Option (List ℕ) → Option (List ℕ) → List ℕ → Type 0
 Takes AtEnd before after bytes = Appends before after bytes
 Takes Broken before after bytes = TookFront before after bytes
 Takes Spent before after bytes = Appends before after bytes
 Takes Abandoned before after bytes = Appends before after bytes
+Takes LetGo before after bytes = TookFront before after bytes
 
 -- what was taken out of the ring grew from xs to ys, and the pipe took all of that
 pub record Moves (before after : Option (List ℕ)) (xs ys : List ℕ) : Type 0 where
@@ -88,3 +93,12 @@ Stops ended gone AtEnd before after faults now xs ys = ended × Moves before aft
 Stops ended gone Broken before after faults now xs ys = MovesFront before after xs ys × Rose faults now
 Stops ended gone Spent before after faults now xs ys = Moves before after xs ys × (length ys ≡ 2 ^ 62)
 Stops ended gone Abandoned before after faults now xs ys = gone × Moves before after xs ys × (length ys < 2 ^ 62)
+Stops ended gone LetGo before after faults now xs ys = MovesFront before after xs ys
+
+-- how a pipe is known to have cut a piece off: it failed, or it was let go
+abbrev pub Cuts : PumpEnd → ℕ → ℕ → Type 0
+Cuts AtEnd faults now = ⊥
+Cuts Broken faults now = Rose faults now
+Cuts Spent faults now = ⊥
+Cuts Abandoned faults now = ⊥
+Cuts LetGo faults now = ⊤

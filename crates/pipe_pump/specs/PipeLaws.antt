@@ -2,7 +2,7 @@
 use Rattle.std.specs.Prelude.{◌≡◌, ◌≢◌, ℕ, List, ◌++◌, take, Some}
 use Rattle.std.specs.Io.KnownBytes.{IsAtEnd}
 use Rattle.pipe_pump.specs.declared.ends.PumpEnd.{PumpEnd}
-use Rattle.pipe_pump.specs.declared.ends.PumpEnd.TheVariants.{AtEnd, Broken, Abandoned}
+use Rattle.pipe_pump.specs.declared.ends.PumpEnd.TheVariants.{AtEnd, Broken, Abandoned, LetGo}
 use Rattle.pipe_pump.specs.declared.ends.RingEnd.{RingEnd}
 use Rattle.pipe_pump.specs.declared.tap.Tap.{Tap}
 use Rattle.pipe_pump.specs.Rings.{put_in, popped, handed_up, standing}
@@ -25,10 +25,10 @@ PipesKeepTheirBytes = (given left : List ℕ) (end : PumpEnd) (ring : RingEnd) (
     → Pipe given left end (handed_up tap) (standing tap)
 
 -- What a pipe took, after what it had taken before, is a front of what came out of the ring, in order, and all
--- of that where the pipe didn't fail.
+-- of that where the pipe didn't fail and wasn't let go.
 pub record FedPipe (before now : List ℕ) (end : PumpEnd) (bytes : List ℕ) : Type 0 where
   pub front : (n : ℕ) × (now ≡ before ++ take n bytes)
-  pub all : end ≢ Broken → now ≡ before ++ bytes
+  pub all : end ≢ Broken → end ≢ LetGo → now ≡ before ++ bytes
 
 -- .. by what `pump_in` ensures.
 abbrev pub FeedsArriveInOrder : Type 0

@@ -10,7 +10,9 @@ abbrev pub Reads : Option (List ℕ) → Option (List ℕ) → List ℕ → Pipe
 Reads before after into (ReadAs.Bytes n) = Consumes before after (take n into)
 Reads before after into ReadAs.End = Consumes before after [] × IsAtEnd after
 Reads before after into ReadAs.Failed = Consumes before after []
+Reads before after into ReadAs.LetGo = Consumes before after []
 
 abbrev pub Writes : Option (List ℕ) → Option (List ℕ) → List ℕ → PipeWrite → Type 0
 Writes before after from (WroteAs.Took n) = Appends before after (take n from)
 Writes before after from WroteAs.Failed = Appends before after []
+Writes before after from WroteAs.LetGo = Appends before after []

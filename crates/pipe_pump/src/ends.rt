@@ -13,6 +13,8 @@ pub enum PumpEnd {
     /// The loop dropped its end of the ring: bytes of the output found no room there, or the feed was not
     /// ended and nothing of it was left.
     Abandoned,
+    /// The pipe was let go, before it ended or before it took all.
+    LetGo,
 }
 
 /// The ends of a ring that a pump had.

@@ -14,6 +14,7 @@ use super::tap::Tap;
 use super::{PipeIn, PipeRead, PumpDone, PumpEnd, RingEnd};
 use crossbeam_utils::sync::Parker;
 use host_base::NoMemory;
+use pipe_wait::PipeWait;
 use rtrb::{Producer, RingBuffer};
 use std::alloc::Global;
 use std::sync::Wait;
@@ -51,9 +52,14 @@ pub fn rings(alloc: Global, size: usize) -> Result<(PumpRing, Tap), NoMemory>
     ))
 }
 
-/// Moves bytes from a pipe to a ring until the pipe ends or fails, or the tap is gone. It waits for the pipe,
-/// and for room in the ring.
-pub fn pump_out<R: Wait, P: PipeIn + Drop>(rt: &R, pipe: P, ring: PumpRing) -> PumpDone<P>
+/// Moves bytes from a pipe to a ring until the pipe ends or fails or is let go, or the tap is gone. It waits for the pipe,
+/// there where its thread waits for pipes, and for room in the ring.
+pub fn pump_out<R: Wait, P: PipeIn + Drop>(
+    rt: &R,
+    pipe: P,
+    ring: PumpRing,
+    wait: &mut PipeWait,
+) -> PumpDone<P>
     requires { IsFreshRing ring }
     ensures ring { IsEndOf ring result.ring }
     ensures moved { Gives result.end (P.left pipe) (P.left result.pipe) (put_in result.ring) }
@@ -74,10 +80,11 @@ pub fn pump_out<R: Wait, P: PipeIn + Drop>(rt: &R, pipe: P, ring: PumpRing) -> P
     let mut total = 0;
     for _ in rt.forever() {
         let room = buffer.len().min((MOST - total) as usize);
-        let count = match read_piece(&mut pipe, &mut buffer, room) {
+        let count = match read_piece(&mut pipe, &mut buffer, room, wait) {
             PipeRead::Bytes(count) => count,
             PipeRead::End => return done(PumpEnd::AtEnd, pipe, producer, buffer),
             PipeRead::Failed => return done(PumpEnd::Broken, pipe, producer, buffer),
+            PipeRead::LetGo => return done(PumpEnd::LetGo, pipe, producer, buffer),
         };
         total += count as u64;
         let is_last = total == MOST;
@@ -88,6 +95,7 @@ pub fn pump_out<R: Wait, P: PipeIn + Drop>(rt: &R, pipe: P, ring: PumpRing) -> P
             &parker,
             &buffer[..count],
             is_last,
+            wait,
         ) {
             return done(end, pipe, producer, buffer);
         }
@@ -98,7 +106,12 @@ pub fn pump_out<R: Wait, P: PipeIn + Drop>(rt: &R, pipe: P, ring: PumpRing) -> P
 
 // One read of at most so many bytes.
 #[tactic(auto, using(crate::proofs::Gone::reads_back))]
-fn read_piece<P: PipeIn>(pipe: &mut P, buffer: &mut Vec<u8>, most: usize) -> PipeRead
+fn read_piece<P: PipeIn>(
+    pipe: &mut P,
+    buffer: &mut Vec<u8>,
+    most: usize,
+    wait: &mut PipeWait,
+) -> PipeRead
     requires most { (0 < most) × (most ≤ vec_len buffer.old) }
     ensures within { (n : ℕ) → result ≡ ReadAs.Bytes n → (0 < n) × (n ≤ most) }
     ensures room { vec_len buffer.new ≡ vec_len buffer.old }
@@ -106,12 +119,17 @@ fn read_piece<P: PipeIn>(pipe: &mut P, buffer: &mut Vec<u8>, most: usize) -> Pip
     ensures count { P.faults pipe.old ≤ P.faults pipe.new }
     ensures cause { result ≡ ReadAs.Failed → Rose (P.faults pipe.old) (P.faults pipe.new) }
 {
-    read_front(pipe, buffer, most)
+    read_front(pipe, buffer, most, wait)
 }
 
 // .. to the front of a slice.
 #[tactic(auto, using(crate::proofs::Gone::reads_more))]
-fn read_front<P: PipeIn>(pipe: &mut P, buffer: &mut [u8], most: usize) -> PipeRead
+fn read_front<P: PipeIn>(
+    pipe: &mut P,
+    buffer: &mut [u8],
+    most: usize,
+    wait: &mut PipeWait,
+) -> PipeRead
     requires most { (0 < most) × (most ≤ length buffer.old) }
     ensures within { (n : ℕ) → result ≡ ReadAs.Bytes n → (0 < n) × (n ≤ most) }
     ensures room { length buffer.new ≡ length buffer.old }
@@ -119,7 +137,7 @@ fn read_front<P: PipeIn>(pipe: &mut P, buffer: &mut [u8], most: usize) -> PipeRe
     ensures count { P.faults pipe.old ≤ P.faults pipe.new }
     ensures cause { result ≡ ReadAs.Failed → Rose (P.faults pipe.old) (P.faults pipe.new) }
 {
-    pipe.read(&mut buffer[..most])
+    pipe.read(&mut buffer[..most], wait)
 }
 
 fn done<P>(end: PumpEnd, pipe: P, producer: Producer<u8>, buffer: Vec<u8>) -> PumpDone<P>
@@ -151,6 +169,7 @@ fn send<R: Wait, P: PipeIn>(
     parker: &Parker,
     piece: &[u8],
     is_last: bool,
+    wait: &mut PipeWait,
 ) -> Option<PumpEnd>
     ensures ring { SameProducer producer.old producer.new }
     ensures sent { Sends result producer.old producer.new piece.now }
@@ -173,33 +192,38 @@ fn send<R: Wait, P: PipeIn>(
         if is_gone {
             return Some(PumpEnd::Abandoned);
         }
-        ended = tell_unless_ended(pipe, ended);
+        ended = tell_unless_ended(pipe, ended, wait);
         parker.park(rt);
     }
     unreachable!()
 }
 
 // Tells the pipe, where it is not known yet how the pump ends.
-fn tell_unless_ended<P: PipeIn>(pipe: &mut P, ended: Option<PumpEnd>) -> Option<PumpEnd>
+fn tell_unless_ended<P: PipeIn>(
+    pipe: &mut P,
+    ended: Option<PumpEnd>,
+    wait: &mut PipeWait,
+) -> Option<PumpEnd>
     ensures pipe { Consumes (P.left pipe.old) (P.left pipe.new) [] }
     ensures count { P.faults pipe.old ≤ P.faults pipe.new }
     ensures ends { (is_last : Bool) (before : ℕ) → before ≤ P.faults pipe.old → KnownEnd is_last (P.left pipe.old) before (P.faults pipe.old) ended → KnownEnd is_last (P.left pipe.new) before (P.faults pipe.new) result }
 {
     match ended {
         Some(_) => ended,
-        None => tell(pipe),
+        None => tell(pipe, wait),
     }
 }
 
 // Tells the pipe that its bytes wait in the ring.
-fn tell<P: PipeIn>(pipe: &mut P) -> Option<PumpEnd>
+fn tell<P: PipeIn>(pipe: &mut P, wait: &mut PipeWait) -> Option<PumpEnd>
     ensures pipe { Consumes (P.left pipe.old) (P.left pipe.new) [] }
     ensures count { P.faults pipe.old ≤ P.faults pipe.new }
     ensures ends { KnownEnd false (P.left pipe.new) (P.faults pipe.old) (P.faults pipe.new) result }
 {
-    match pipe.read(&mut []) {
+    match pipe.read(&mut [], wait) {
         PipeRead::Bytes(_) => None,
         PipeRead::End => Some(PumpEnd::AtEnd),
         PipeRead::Failed => Some(PumpEnd::Broken),
+        PipeRead::LetGo => Some(PumpEnd::LetGo),
     }
 }

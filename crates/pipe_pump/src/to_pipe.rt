@@ -1,12 +1,12 @@
 // The pump from a ring to a pipe.
-ghost use Rattle.std.specs.Prelude.{◌≡◌, ◌≤◌, ◌<◌, ◌+◌, ◌^◌, ◌⊎◌, [], true, false, Ok, Some, None, IfOk, IfErr, IfSome, OnOk, length, vec_len, take as list_take, drop as list_drop};
+ghost use Rattle.std.specs.Prelude.{◌≡◌, ◌≤◌, ◌<◌, ◌+◌, ◌^◌, ◌⊎◌, [], true, false, Ok, Some, None, IfOk, IfErr, IfSome, OnOk, OnErr, length, vec_len, take as list_take, drop as list_drop};
 ghost use Rattle.std.specs.Io.KnownBytes.{Appends};
 ghost use Rattle.host_base.specs.Outsides.{Rose};
 ghost use Rattle.rtrb.specs.Ring.{sent, received, known_items, IsPair, SameConsumer};
 ghost use Rattle.pipe_pump.specs.Hands.{IsMarkFor};
 ghost use Rattle.pipe_pump.specs.Rings.{IsFreshFeed, IsFeedEndOf, IsWholeFeed, popped, known_left};
 ghost use Rattle.pipe_pump.specs.declared.ends.RingEnd.TheVariants.{Input};
-ghost use Rattle.pipe_pump.specs.Moved.{Takes, Moves, TookFront, Stops};
+ghost use Rattle.pipe_pump.specs.Moved.{Takes, Moves, TookFront, Stops, Cuts};
 
 use super::buffer::grow;
 use super::feed_ring::FeedRing;
@@ -15,6 +15,7 @@ use super::hand::{Hand, OneRing};
 use super::pop::pop;
 use super::{PipeOut, PipeWrite, PumpDone, PumpEnd, RingEnd};
 use crossbeam_utils::sync::Parker;
+use pipe_wait::PipeWait;
 use rtrb::{Consumer, Producer};
 use std::alloc::Global;
 use std::sync::Wait;
@@ -22,9 +23,14 @@ use std::sync::Wait;
 // How long a piece is at most that is written before the pipe is told that the ring is empty.
 const SHORT: usize = 4_096;
 
-/// Moves bytes from a ring to a pipe until the feed has ended or the pipe fails, or the feeder is gone. It
-/// waits for the pipe, and for bytes in the ring.
-pub fn pump_in<R: Wait, P: PipeOut + Drop>(rt: &R, ring: FeedRing, pipe: P) -> PumpDone<P>
+/// Moves bytes from a ring to a pipe until the feed has ended or the pipe fails or is let go, or the feeder is gone. It
+/// waits for the pipe, there where its thread waits for pipes, and for bytes in the ring.
+pub fn pump_in<R: Wait, P: PipeOut + Drop>(
+    rt: &R,
+    ring: FeedRing,
+    pipe: P,
+    wait: &mut PipeWait,
+) -> PumpDone<P>
     requires { IsFreshFeed ring }
     ensures ring { IsFeedEndOf ring result.ring }
     ensures moved { Takes result.end (P.taken pipe) (P.taken result.pipe) (popped result.ring) }
@@ -33,7 +39,7 @@ pub fn pump_in<R: Wait, P: PipeOut + Drop>(rt: &R, ring: FeedRing, pipe: P) -> P
     ensures count { P.faults pipe ≤ P.faults result.pipe }
     ensures cause { result.end ≡ PumpEnd.Broken → Rose (P.faults pipe) (P.faults result.pipe) }
     ensures spent { result.end ≡ PumpEnd.Spent → length (popped result.ring) ≡ 2 ^ 62 }
-    ensures most { length (popped result.ring) ≡ 2 ^ 62 → (result.end ≡ PumpEnd.Spent) ⊎ (result.end ≡ PumpEnd.Broken) }
+    ensures most { length (popped result.ring) ≡ 2 ^ 62 → (result.end ≡ PumpEnd.Spent) ⊎ ((result.end ≡ PumpEnd.Broken) ⊎ (result.end ≡ PumpEnd.LetGo)) }
     ensures empty { result.end ≡ PumpEnd.Abandoned → known_left result.ring ≡ [] }
 {
     let (consumer, hand, parker, buffer) = ring.parts();
@@ -50,6 +56,7 @@ pub fn pump_in<R: Wait, P: PipeOut + Drop>(rt: &R, ring: FeedRing, pipe: P) -> P
         &parker,
         &mut total,
         &mut buffer,
+        wait,
     ) {
         Err(end) => done(end, pipe, consumer, None, buffer),
         Ok(producer) => {
@@ -61,6 +68,7 @@ pub fn pump_in<R: Wait, P: PipeOut + Drop>(rt: &R, ring: FeedRing, pipe: P) -> P
                 &mut producer,
                 &mut total,
                 &mut buffer,
+                wait,
             );
             done(end, pipe, consumer, Some(producer), buffer)
         }
@@ -95,6 +103,7 @@ fn pump_open<R: Wait, P: PipeOut>(
     parker: &Parker,
     total: &mut u64,
     buffer: &mut Vec<u8>,
+    wait: &mut PipeWait,
 ) -> Result<Producer<u8>, PumpEnd>
     requires mark { IsMarkFor (received hand.old) consumer.old }
     requires total { length (received consumer.old) ≡ total.old }
@@ -111,7 +120,7 @@ fn pump_open<R: Wait, P: PipeOut>(
 {
     for _ in rt.forever() {
         let is_last = consumer.is_abandoned();
-        let count = match move_some(pipe, consumer, total, buffer) {
+        let count = match move_some(pipe, consumer, total, buffer, wait) {
             Ok(count) => count,
             Err(end) => return Err(end),
         };
@@ -156,6 +165,7 @@ fn pump_rest<R: Wait, P: PipeOut>(
     producer: &mut Producer<u8>,
     total: &mut u64,
     buffer: &mut Vec<u8>,
+    wait: &mut PipeWait,
 ) -> PumpEnd
     requires pair { IsPair producer.old consumer.old }
     requires total { length (received consumer.old) ≡ total.old }
@@ -169,10 +179,10 @@ fn pump_rest<R: Wait, P: PipeOut>(
 {
     for _ in rt.forever() {
         if consumer.slots_beside(producer) == 0 {
-            pipe.finish();
+            pipe.finish(wait);
             return PumpEnd::AtEnd;
         }
-        match move_some(pipe, consumer, total, buffer) {
+        match move_some(pipe, consumer, total, buffer, wait) {
             Ok(count) => grow(buffer, count),
             Err(end) => return end,
         }
@@ -186,6 +196,7 @@ fn move_some<P: PipeOut>(
     consumer: &mut Consumer<u8>,
     total: &mut u64,
     buffer: &mut [u8],
+    wait: &mut PipeWait,
 ) -> Result<usize, PumpEnd>
     requires total { length (received consumer.old) ≡ total.old }
     requires most { total.old < 2 ^ 62 }
@@ -199,7 +210,7 @@ fn move_some<P: PipeOut>(
     ensures most { OnOk result (total.new < 2 ^ 62) }
 {
     let room = buffer.len().min((MOST - *total) as usize);
-    move_piece(pipe, consumer, total, &mut buffer[..room])
+    move_piece(pipe, consumer, total, &mut buffer[..room], wait)
 }
 
 // .. and no more than the buffer holds. Where that empties the ring the pipe is told.
@@ -208,6 +219,7 @@ fn move_piece<P: PipeOut>(
     consumer: &mut Consumer<u8>,
     total: &mut u64,
     buffer: &mut [u8],
+    wait: &mut PipeWait,
 ) -> Result<usize, PumpEnd>
     requires total { length (received consumer.old) ≡ total.old }
     requires most { total.old + length buffer.old ≤ 2 ^ 62 }
@@ -225,8 +237,8 @@ fn move_piece<P: PipeOut>(
         return Ok(0);
     }
     *total += count as u64;
-    if !put_told(pipe, &buffer[..count], consumer.slots() == 0) {
-        return Err(PumpEnd::Broken);
+    if let Err(end) = put_told(pipe, &buffer[..count], consumer.slots() == 0, wait) {
+        return Err(end);
     }
     if *total == MOST {
         return Err(PumpEnd::Spent);
@@ -234,90 +246,95 @@ fn move_piece<P: PipeOut>(
     Ok(count)
 }
 
-// Writes all of a piece, and answers whether the pipe took it. Where it is the last in the ring the pipe is told: before a
+// Writes all of a piece, where the pipe takes it. Where it is the last in the ring the pipe is told: before a
 // long one, whose write may have to wait, and behind a short one, which it then has sooner.
-fn put_told<P: PipeOut>(pipe: &mut P, piece: &[u8], is_last: bool) -> bool
-    ensures all { result ≡ true → Appends (P.taken pipe.old) (P.taken pipe.new) piece.now }
+fn put_told<P: PipeOut>(
+    pipe: &mut P,
+    piece: &[u8],
+    is_last: bool,
+    wait: &mut PipeWait,
+) -> Result<(), PumpEnd>
+    ensures all { OnOk result (Appends (P.taken pipe.old) (P.taken pipe.new) piece.now) }
     ensures part { TookFront (P.taken pipe.old) (P.taken pipe.new) piece.now }
     ensures count { P.faults pipe.old ≤ P.faults pipe.new }
-    ensures cause { result ≡ false → Rose (P.faults pipe.old) (P.faults pipe.new) }
+    ensures cuts { IfErr result (λ end. Cuts end (P.faults pipe.old) (P.faults pipe.new)) }
 {
     if !is_last {
-        put(pipe, piece)
+        put(pipe, piece, wait)
     } else if piece.len() > SHORT {
-        tell_and_put(pipe, piece)
+        tell_and_put(pipe, piece, wait)
     } else {
-        put_and_tell(pipe, piece)
+        put_and_tell(pipe, piece, wait)
     }
 }
 
 #[tactic(auto, using(crate::proofs::Fronts::none_joined, crate::proofs::Fronts::none_front, crate::proofs::Fronts::front_after))]
-fn tell_and_put<P: PipeOut>(pipe: &mut P, piece: &[u8]) -> bool
-    ensures all { result ≡ true → Appends (P.taken pipe.old) (P.taken pipe.new) piece.now }
+fn tell_and_put<P: PipeOut>(pipe: &mut P, piece: &[u8], wait: &mut PipeWait) -> Result<(), PumpEnd>
+    ensures all { OnOk result (Appends (P.taken pipe.old) (P.taken pipe.new) piece.now) }
     ensures part { TookFront (P.taken pipe.old) (P.taken pipe.new) piece.now }
     ensures count { P.faults pipe.old ≤ P.faults pipe.new }
-    ensures cause { result ≡ false → Rose (P.faults pipe.old) (P.faults pipe.new) }
+    ensures cuts { IfErr result (λ end. Cuts end (P.faults pipe.old) (P.faults pipe.new)) }
 {
-    if tell(pipe) {
-        return false;
-    }
-    put(pipe, piece)
+    tell(pipe, wait)?;
+    put(pipe, piece, wait)
 }
 
 #[tactic(auto, using(crate::proofs::Fronts::joined_none, crate::proofs::Fronts::whole_front))]
-fn put_and_tell<P: PipeOut>(pipe: &mut P, piece: &[u8]) -> bool
-    ensures all { result ≡ true → Appends (P.taken pipe.old) (P.taken pipe.new) piece.now }
+fn put_and_tell<P: PipeOut>(pipe: &mut P, piece: &[u8], wait: &mut PipeWait) -> Result<(), PumpEnd>
+    ensures all { OnOk result (Appends (P.taken pipe.old) (P.taken pipe.new) piece.now) }
     ensures part { TookFront (P.taken pipe.old) (P.taken pipe.new) piece.now }
     ensures count { P.faults pipe.old ≤ P.faults pipe.new }
-    ensures cause { result ≡ false → Rose (P.faults pipe.old) (P.faults pipe.new) }
+    ensures cuts { IfErr result (λ end. Cuts end (P.faults pipe.old) (P.faults pipe.new)) }
 {
-    if !put(pipe, piece) {
-        return false;
-    }
-    !tell(pipe)
+    put(pipe, piece, wait)?;
+    tell(pipe, wait)
 }
 
-// Writes all of a piece, and answers whether the pipe took it.
+// Writes all of a piece, where the pipe takes it.
 #[tactic(auto, using(crate::proofs::Fronts::taken_more, crate::proofs::Fronts::joined_none))]
-fn put<P: PipeOut>(pipe: &mut P, piece: &[u8]) -> bool
-    ensures all { result ≡ true → Appends (P.taken pipe.old) (P.taken pipe.new) piece.now }
+fn put<P: PipeOut>(pipe: &mut P, piece: &[u8], wait: &mut PipeWait) -> Result<(), PumpEnd>
+    ensures all { OnOk result (Appends (P.taken pipe.old) (P.taken pipe.new) piece.now) }
     ensures part { TookFront (P.taken pipe.old) (P.taken pipe.new) piece.now }
     ensures count { P.faults pipe.old ≤ P.faults pipe.new }
-    ensures cause { result ≡ false → Rose (P.faults pipe.old) (P.faults pipe.new) }
+    ensures cuts { IfErr result (λ end. Cuts end (P.faults pipe.old) (P.faults pipe.new)) }
 {
     let mut done = 0;
     while done < piece.len() {
-        match put_some(pipe, piece, done) {
-            Some(count) => done += count,
-            None => return false,
-        }
+        done += put_some(pipe, piece, done, wait)?;
     }
-    true
+    Ok(())
 }
 
 // One write of what comes after the first bytes.
-fn put_some<P: PipeOut>(pipe: &mut P, piece: &[u8], done: usize) -> Option<usize>
+fn put_some<P: PipeOut>(
+    pipe: &mut P,
+    piece: &[u8],
+    done: usize,
+    wait: &mut PipeWait,
+) -> Result<usize, PumpEnd>
     requires { done < length piece.now }
-    ensures within { IfSome result (λ count. (0 < count) × (done + count ≤ length piece.now)) }
-    ensures took { IfSome result (λ count. Appends (P.taken pipe.old) (P.taken pipe.new) (list_take count (list_drop done piece.now))) }
-    ensures none { result ≡ None → Appends (P.taken pipe.old) (P.taken pipe.new) [] }
+    ensures within { IfOk result (λ count. (0 < count) × (done + count ≤ length piece.now)) }
+    ensures took { IfOk result (λ count. Appends (P.taken pipe.old) (P.taken pipe.new) (list_take count (list_drop done piece.now))) }
+    ensures none { OnErr result (Appends (P.taken pipe.old) (P.taken pipe.new) []) }
     ensures count { P.faults pipe.old ≤ P.faults pipe.new }
-    ensures cause { result ≡ None → Rose (P.faults pipe.old) (P.faults pipe.new) }
+    ensures cuts { IfErr result (λ end. Cuts end (P.faults pipe.old) (P.faults pipe.new)) }
 {
-    match pipe.write(&piece[done..]) {
-        PipeWrite::Took(count) => Some(count),
-        PipeWrite::Failed => None,
+    match pipe.write(&piece[done..], wait) {
+        PipeWrite::Took(count) => Ok(count),
+        PipeWrite::Failed => Err(PumpEnd::Broken),
+        PipeWrite::LetGo => Err(PumpEnd::LetGo),
     }
 }
 
-// Tells the pipe that the ring is empty now. It answers whether the pipe failed.
-fn tell<P: PipeOut>(pipe: &mut P) -> bool
+// Tells the pipe that the ring is empty now.
+fn tell<P: PipeOut>(pipe: &mut P, wait: &mut PipeWait) -> Result<(), PumpEnd>
     ensures pipe { Appends (P.taken pipe.old) (P.taken pipe.new) [] }
     ensures count { P.faults pipe.old ≤ P.faults pipe.new }
-    ensures cause { result ≡ true → Rose (P.faults pipe.old) (P.faults pipe.new) }
+    ensures cuts { IfErr result (λ end. Cuts end (P.faults pipe.old) (P.faults pipe.new)) }
 {
-    match pipe.write(&[]) {
-        PipeWrite::Took(_) => false,
-        PipeWrite::Failed => true,
+    match pipe.write(&[], wait) {
+        PipeWrite::Took(_) => Ok(()),
+        PipeWrite::Failed => Err(PumpEnd::Broken),
+        PipeWrite::LetGo => Err(PumpEnd::LetGo),
     }
 }

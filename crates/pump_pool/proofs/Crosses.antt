@@ -11,6 +11,7 @@ use Rattle.pipe_pump.specs.contracts.ends.RingEnd as RingEnd
 use Rattle.pump_pool.specs.contracts.hand.Hand as Hand
 use Rattle.pump_pool.specs.contracts.hand.Mark as Mark
 use Rattle.pump_pool.specs.contracts.outward.OutJob as OutJob
+use Rattle.pump_pool.specs.contracts.back.OutBack as OutBack
 use Rattle.pump_pool.specs.contracts.inward.InJob as InJob
 
 pub ring_end_send : IsSend RingEnd.the_field.row
@@ -25,8 +26,11 @@ mark_send G P r s = search (sendable, crosses) depth 20
 pub hand_send : (G P : RattleType) → IsSend G → IsSend P → IsSend (Hand.the_field G P).row
 hand_send G P r s = let d = done_send P s in let m = mark_send G P r s in search (sendable, crosses) depth 20
 
+pub out_back_send : (P : RattleType) (g : PipeIn.Ghosts P.Denot) → IsSend P → IsSend (OutBack.the_field P g).row
+out_back_send P g s = search (sendable, crosses, end.the_send, hand_send, pump_ring_send) depth 20
+
 pub out_job_send : (P : RattleType) (g : PipeIn.Ghosts P.Denot) → IsSend P → IsSend (OutJob.the_field P g).row
-out_job_send P g s = search (sendable, crosses, end.the_send, hand_send, pump_ring_send) depth 20
+out_job_send P g s = search (sendable, crosses, out_back_send, pump_ring_send) depth 20
 
 pub in_job_send : (P : RattleType) (g : PipeOut.Ghosts P.Denot) → IsSend P → IsSend (InJob.the_field P g).row
 in_job_send P g s = search (sendable, crosses, end.the_send, hand_send, feed_ring_send) depth 20

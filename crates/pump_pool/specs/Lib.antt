@@ -1,4 +1,5 @@
 pub mod Hands
+pub mod Backs
 pub mod Pumped
 pub mod Pumps
 pub mod Workers

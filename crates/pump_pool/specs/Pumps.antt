@@ -7,6 +7,7 @@ use Rattle.pump_pool.specs.declared.hand.Hand.{Hand}
 use Rattle.pump_pool.specs.declared.outward.OutHands.{OutHands}
 use Rattle.pump_pool.specs.declared.outward.OutJob.{OutJob}
 use Rattle.pump_pool.specs.declared.outward.OutPump.{OutPump}
+use Rattle.pump_pool.specs.declared.back.OutBack.{OutBack}
 use Rattle.pump_pool.specs.declared.inward.InHands.{InHands}
 use Rattle.pump_pool.specs.declared.inward.InJob.{InJob}
 use Rattle.pump_pool.specs.declared.inward.InPump.{InPump}
@@ -48,7 +49,10 @@ module _ {P : Type 0} where
 
   -- what this job hands over comes back at this pump
   abbrev pub IsOutWay : OutJob P → OutPump P → Type 0
-  IsOutWay job pump = IsPair job.hand pump.hand
+  IsOutWay job pump = IsPair job.back.hand pump.hand
+
+  abbrev pub IsOutReturn : OutBack P → OutPump P → Type 0
+  IsOutReturn back pump = IsPair back.hand pump.hand
 
   abbrev pub IsInWay : InJob P → InPump P → Type 0
   IsInWay job pump = IsPair job.hand pump.hand

@@ -8,6 +8,7 @@ use super::hand::{Hand, Mark};
 use super::worker::Job;
 use host_base::NoMemory;
 use pipe_pump::{FeedRing, PipeOut, PumpDone, pump_in};
+use pipe_wait::PipeWait;
 use rtrb::{Consumer, Producer, Protocol, RingBuffer};
 use std::alloc::Global;
 use std::snapshot::Snapshot;
@@ -95,11 +96,11 @@ impl<P: PipeOut + Drop> InHands<P> {
     }
 }
 
-impl<P: PipeOut + Drop> Job for InJob<P> {
-    fn run<R: Wait>(self, rt: &R) {
+impl<R: Wait, P: PipeOut + Drop> Job<R> for InJob<P> {
+    fn run(self, rt: &R, wait: &mut PipeWait) {
         let InJob { pipe, ring, hand } = self;
         let mut hand = hand;
-        let done = pump_in(rt, ring, pipe);
+        let done = pump_in(rt, ring, pipe, wait);
         hand.push_reserved(Hand::Done(done));
     }
 }

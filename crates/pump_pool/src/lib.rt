@@ -2,12 +2,14 @@
 //! loop learns of each end without waiting for a thread.
 #![tactic(auto)]
 
+mod back;
 mod hand;
 mod inward;
 mod outward;
 mod worker;
 
+pub use back::OutBack;
 pub use hand::{Hand, Mark};
 pub use inward::{InHands, InJob, InPump, InRing};
 pub use outward::{OutHands, OutJob, OutPump, OutRing};
-pub use worker::{Busy, Job, Station, Worker};
+pub use worker::{Busy, Job, Station, Worker, start_thread};

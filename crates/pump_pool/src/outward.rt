@@ -3,11 +3,14 @@ ghost use Rattle.std.specs.Prelude.{◌≡◌, ◌<◌, [], IfOk};
 ghost use Rattle.rtrb.specs.Ring.{sent, received, known_free, IsPair};
 ghost use Rattle.pipe_pump.specs.Rings.{IsFreshRing};
 ghost use Rattle.pump_pool.specs.Hands.{IsMarked, HasMark};
+ghost use Rattle.pump_pool.specs.Backs.{back_ring, back_pipe};
 
+use super::back::OutBack;
 use super::hand::{Hand, Mark};
 use super::worker::Job;
 use host_base::NoMemory;
 use pipe_pump::{PipeIn, PumpDone, PumpRing, pump_out};
+use pipe_wait::PipeWait;
 use rtrb::{Consumer, Producer, Protocol, RingBuffer};
 use std::alloc::Global;
 use std::snapshot::Snapshot;
@@ -40,10 +43,10 @@ pub struct OutHands<P: PipeIn> {
 pub struct OutJob<P: PipeIn> {
     pipe: P,
     ring: PumpRing,
-    hand: Producer<Hand<PumpRing, P>, Global, OutRing>,
+    back: OutBack<P>,
     ghost fresh: { IsFreshRing ring },
-    ghost marked: { IsMarked ring pipe (sent hand) },
-    ghost room: { 0 < known_free hand },
+    ghost of_pipe: { back_pipe back ≡ pipe },
+    ghost of_ring: { back_ring back ≡ ring },
 }
 
 /// What learns of the end of a pump.
@@ -57,7 +60,8 @@ pub struct OutPump<P: PipeIn> {
 
 impl<P: PipeIn + Drop> OutHands<P> {
     ghost use Rattle.std.specs.Prelude.{◌≡◌, IfOk};
-    ghost use Rattle.pump_pool.specs.Pumps.{ring_of, output_of, IsUnusedOut, IsOutWay};
+    ghost use Rattle.pump_pool.specs.Pumps.{ring_of, output_of, IsUnusedOut, IsOutWay, IsOutReturn};
+    ghost use Rattle.pump_pool.specs.Backs.{back_ring, back_pipe};
     ghost use Rattle.pipe_pump.specs.Rings.{IsFreshRing};
 
     /// Room for one end.
@@ -75,32 +79,37 @@ impl<P: PipeIn + Drop> OutHands<P> {
         ensures pump { (output_of result.1 ≡ pipe) × (ring_of result.1 ≡ ring) }
         ensures way { IsOutWay result.0 result.1 }
     {
+        let (back, pump) = self.back(&pipe, &ring);
+        (OutJob { pipe, ring, back }, pump)
+    }
+
+    /// For a pump that is to be run elsewhere on this ring, from this pipe or one that is like it: where its end is handed
+    /// over, and what learns of it.
+    pub fn back(self, pipe: &P, ring: &PumpRing) -> (OutBack<P>, OutPump<P>)
+        ensures back { (back_pipe result.0 ≡ pipe.now) × (back_ring result.0 ≡ ring.now) }
+        ensures pump { (output_of result.1 ≡ pipe.now) × (ring_of result.1 ≡ ring.now) }
+        ensures way { IsOutReturn result.0 result.1 }
+    {
         let OutHands { giver, taker } = self;
         let mut giver = giver;
         let mut taker = taker;
-        giver.push_reserved(Hand::Marked(Mark::of(&ring, &pipe)));
+        giver.push_reserved(Hand::Marked(Mark::of(ring, pipe)));
         taker.slots_beside(&mut giver);
         let _mark = taker.pop_known();
         let pump = OutPump {
-            ring: Snapshot::of(&ring),
-            pipe: Snapshot::of(&pipe),
+            ring: Snapshot::of(ring),
+            pipe: Snapshot::of(pipe),
             hand: taker,
         };
-        let job = OutJob {
-            pipe,
-            ring,
-            hand: giver,
-        };
-        (job, pump)
+        (OutBack::new(ring, pipe, giver), pump)
     }
 }
 
-impl<P: PipeIn + Drop> Job for OutJob<P> {
-    fn run<R: Wait>(self, rt: &R) {
-        let OutJob { pipe, ring, hand } = self;
-        let mut hand = hand;
-        let done = pump_out(rt, pipe, ring);
-        hand.push_reserved(Hand::Done(done));
+impl<R: Wait, P: PipeIn + Drop> Job<R> for OutJob<P> {
+    fn run(self, rt: &R, wait: &mut PipeWait) {
+        let OutJob { pipe, ring, back } = self;
+        let done = pump_out(rt, pipe, ring, wait);
+        back.give(done);
     }
 }
 

@@ -4,8 +4,10 @@ ghost use Rattle.rtrb.specs.Ring.{known_free};
 
 use crossbeam_utils::sync::{Parker, Unparker};
 use host_base::NoMemory;
+use pipe_wait::{PipeWait, PipeWaker};
 use rtrb::{Consumer, Producer, RingBuffer};
 use std::alloc::Global;
+use std::net::Net;
 use std::sync::atomic::{AtomicBool, Ordering};
 use std::sync::{Arc, Wait};
 use std::thread;
@@ -14,14 +16,16 @@ use std::thread::Threads;
 /// How many bytes the stack of a worker's thread has.
 const STACK: usize = 131_072;
 
-/// What a worker's thread runs.
-pub trait Job {
-    fn run<R: Wait>(self, rt: &R);
+/// What a worker's thread runs, by this runtime.
+pub trait Job<R> {
+    /// `wait` is where the thread waits for pipes.
+    fn run(self, rt: &R, wait: &mut PipeWait);
 }
 
 /// The place of a thread: where its jobs come in, where it sleeps, and where it says that it ended its last job.
 #[derive(Drop)]
 pub struct Station<J> {
+    alloc: Global,
     jobs: Consumer<J>,
     parker: Parker,
     rests: Arc<AtomicBool>,
@@ -32,6 +36,8 @@ pub struct Reins<J: Drop> {
     jobs: Producer<J>,
     parker: Unparker,
     rests: Arc<AtomicBool>,
+    /// What ends its wait for a pipe, once it was started.
+    waker: Option<PipeWaker>,
 }
 
 impl<J: Drop> Drop for Reins<J> {
@@ -40,6 +46,7 @@ impl<J: Drop> Drop for Reins<J> {
             jobs,
             parker,
             rests: _,
+            waker: _,
         } = self;
         drop(jobs);
         parker.unpark();
@@ -59,39 +66,45 @@ pub struct Busy<J: Drop> {
     reins: Reins<J>,
 }
 
-impl<J: Job + Send + Drop + 'static> Station<J> {
-    /// Starts the thread, and answers whether the system gave one.
-    pub fn start<R: Threads + Wait + Copy + Drop + Send + 'static>(self, rt: &R) -> bool {
-        let theirs = *rt;
-        thread::Builder::new()
-            .stack_size(STACK)
-            .spawn(rt, move || self.work(&theirs))
-            .is_ok()
+/// Starts the thread of a station where the system gives one and a place for it to wait at, and answers what ends its
+/// waits.
+pub fn start_thread<
+    R: Threads + Wait + Net + Copy + Drop + Send + 'static,
+    J: Job<R> + Send + Drop + 'static,
+>(rt: &R, station: Station<J>) -> Option<PipeWaker> {
+    let (wait, waker) = PipeWait::pair(rt, station.alloc).ok()?;
+    let theirs = *rt;
+    let started = thread::Builder::new()
+        .stack_size(STACK)
+        .spawn(rt, move || work(&theirs, station, wait));
+    match started {
+        Ok(_) => Some(waker),
+        Err(_) => None,
     }
 }
 
-impl<J: Job + Drop> Station<J> {
-    // Runs what comes until our end is dropped.
-    fn work<R: Wait>(self, rt: &R) {
-        let Station {
-            jobs,
-            parker,
-            rests,
-        } = self;
-        let mut jobs = jobs;
-        for _ in rt.forever() {
-            let is_last = jobs.is_abandoned();
-            match jobs.pop() {
-                Ok(job) => {
-                    job.run(rt);
-                    rests.store(true, Ordering::SeqCst);
-                }
-                Err(_) if is_last => return,
-                Err(_) => parker.park(rt),
+// Runs what comes until our end is dropped.
+fn work<R: Wait, J: Job<R> + Drop>(rt: &R, station: Station<J>, wait: PipeWait) {
+    let Station {
+        alloc: _,
+        jobs,
+        parker,
+        rests,
+    } = station;
+    let mut jobs = jobs;
+    let mut wait = wait;
+    for _ in rt.forever() {
+        let is_last = jobs.is_abandoned();
+        match jobs.pop() {
+            Ok(job) => {
+                job.run(rt, &mut wait);
+                rests.store(true, Ordering::SeqCst);
             }
+            Err(_) if is_last => return,
+            Err(_) => parker.park(rt),
         }
-        unreachable!()
     }
+    unreachable!()
 }
 
 impl<J: Drop> Worker<J> {
@@ -112,13 +125,25 @@ impl<J: Drop> Worker<J> {
             jobs,
             parker: sleeper,
             rests: Arc::try_clone(&rests)?,
+            waker: None,
         };
         let station = Station {
+            alloc,
             jobs: mailbox,
             parker,
             rests,
         };
         Ok((Worker { reins }, station))
+    }
+
+    /// The same, whose waits for pipes are ended by this.
+    pub fn woken_by(self, waker: PipeWaker) -> Worker<J>
+        ensures { given result ≡ given self }
+    {
+        let Worker { reins } = self;
+        let mut reins = reins;
+        reins.waker = Some(waker);
+        Worker { reins }
     }
 
     /// Gives the thread a job.
@@ -137,6 +162,13 @@ impl<J: Drop> Worker<J> {
 impl<J: Drop> Busy<J> {
     ghost use Rattle.std.specs.Prelude.{◌≡◌, IfSome, IsSome};
     ghost use Rattle.pump_pool.specs.Workers.{given, given_to, HasTaken};
+
+    /// Ends the wait for a pipe that is under way there, or else the next.
+    pub fn wake(&self) {
+        if let Some(waker) = &self.reins.waker {
+            waker.wake();
+        }
+    }
 
     /// Whether its thread has said that it ended its last job.
     pub fn rests(&self) -> bool {

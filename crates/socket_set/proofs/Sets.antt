@@ -138,13 +138,13 @@ arrives_two : (c b : ℕ) (f g h : ℕ → Option ClientState) → AllRest f g �
 arrives_two c b f g h p e q =
     rw e record { s = q.s; is_now = q.is_now; fresh = q.fresh; others = λ d apart. goes_two (f d) (g d) (h d) (p d) (q.others d apart) }
 
-counts_self : (a : SetState) → SameCounts a a
+pub counts_self : (a : SetState) → SameCounts a a
 counts_self a = record { accepted = refl; ticked = refl; listening = refl }
 
 pub quiet_self : (a : SetState) → IsQuiet a a
 quiet_self a = record { counts = counts_self a; rest = all_self (clients a) }
 
-counts_two : (a b d : SetState) → SameCounts a b → SameCounts b d → SameCounts a d
+pub counts_two : (a b d : SetState) → SameCounts a b → SameCounts b d → SameCounts a d
 counts_two a b d p q = record { accepted = q.accepted ∙ p.accepted; ticked = q.ticked ∙ p.ticked; listening = q.listening ∙ p.listening }
 
 pub quiet_two : (a b d : SetState) → IsQuiet a b → IsQuiet b d → IsQuiet a d

@@ -6,7 +6,7 @@ use Rattle.host_trace.specs.declared.items.Event.TheVariants.{ClientBytes, Clien
 use Rattle.host_trace.specs.Told.{is_failure}
 use Rattle.host_base.specs.Outsides.{Rose}
 use Rattle.socket_set.specs.Devices.{PortsTell}
-use Rattle.socket_set.specs.Sockets.{SocketTells, Moves}
+use Rattle.socket_set.specs.Sockets.{SocketTells, Moves, EndsReceiving}
 
 pub record ClientState : Type 0 where
   -- what its socket tells
@@ -141,6 +141,16 @@ pub record Frames (said : ℕ) (r s : ClientState) : Type 0 where
 
 abbrev pub Shuts : ClientState → ClientState → Type 0
 Shuts r s = s ≡ record r { shut = true }
+
+-- it was not shut, and speaks no WebSocket
+abbrev pub is_plain : ClientState → Bool
+is_plain r = not r.shut && not r.upgraded
+
+-- its socket's receiving side was ended, if it is plain
+pub record EndsHearing (r s : ClientState) : Type 0 where
+  pub kept : is_plain r ≡ false → s ≡ r
+  pub ended : is_plain r ≡ true → EndsReceiving r.socket s.socket
+  pub same : s ≡ record r { socket = s.socket }
 
 -- it was reported to be ready or, before it was shut, to have failed
 abbrev pub noted : Bool → Bool → Bool → Bool

@@ -156,6 +156,13 @@ pub record On (c : ℕ) (R : ClientState → ClientState → Type 0) (old new : 
   pub one : OnOne c R old new
   pub devices : SameDevices old new
 
+-- each client was changed so
+pub record OnEach (R : ClientState → ClientState → Type 0) (old new : SetState) : Type 0 where
+  pub each : (c : ℕ) → c < old.accepted → OnClient R (clients old c) (clients new c)
+  pub others : (c : ℕ) → old.accepted ≤ c → clients new c ≡ clients old c
+  pub counts : SameCounts old new
+  pub devices : SameDevices old new
+
 -- the clients are the same
 pub record SameClients (old new : SetState) : Type 0 where
   pub rows : new.rows ≡ old.rows

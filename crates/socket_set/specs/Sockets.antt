@@ -61,6 +61,12 @@ pub record Sends (old new : SocketTells) (from : List ℕ) (sent : Sent) : Type 
   pub full : new.full ≡ took_nothing sent
   pub cause : SendCause old.faults new.faults sent
 
+-- of the bytes that its client has still to give a front may still be read
+pub record EndsReceiving (old new : SocketTells) : Type 0 where
+  pub cut : List ℕ
+  pub left : Appends new.left old.left cut
+  pub rest : new ≡ record old { left = new.left }
+
 -- What was taken and what waits are, in this order, what was taken and what waited before, and then `more`: nothing
 -- is lost, and nothing is sent twice.
 abbrev pub Moves : Option (List ℕ) → List ℕ → Option (List ℕ) → List ℕ → List ℕ → Type 0

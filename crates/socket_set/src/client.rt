@@ -80,7 +80,7 @@ impl<S: Socket> Model for Client<S> {
 impl<S: Socket> Client<S> {
     ghost use Rattle.std.specs.Prelude.{◌≡◌, ◌++◌, ◌+◌, ◌-◌, ◌^◌, ◌≤◌, ◌<◌, ◌==◌, [], true, false, None, min, length, sum_by, IfSome, IsNone, OnOk, OnErr};
     ghost use Rattle.socket_set.specs.Devices.{FailsUnless};
-    ghost use Rattle.socket_set.specs.Clients.{Rests, Says, CountsFaults, UnlessShut, IsNewClient, Writes, Upgrades, Frames, Shuts, WantsMore, SameButUntold, IsUnwanted, Notes, Fails, SaysMessage, IsStill, IsStillOrShut, HasMuch, is_behind};
+    ghost use Rattle.socket_set.specs.Clients.{Rests, Says, CountsFaults, UnlessShut, IsNewClient, Writes, Upgrades, Frames, Shuts, EndsHearing, is_plain, WantsMore, SameButUntold, IsUnwanted, Notes, Fails, SaysMessage, IsStill, IsStillOrShut, HasMuch, is_behind};
 
     /// A client of which nothing was heard.
     pub fn new(alloc: Global, socket: S) -> Self
@@ -222,6 +222,22 @@ impl<S: Socket> Client<S> {
         self.shut = true;
         self.still = 0;
         self.end_where_sent();
+    }
+
+    /// What its client sends from now on is not heard, but an end of it, unless it speaks WebSocket.
+    pub fn end_hearing(&mut self)
+        ensures { EndsHearing self.old self.new }
+    {
+        if self.is_plain() {
+            self.socket.end_receiving();
+            self.may_receive = true;
+        }
+    }
+
+    fn is_plain(&self) -> bool
+        ensures { result ≡ is_plain self.now }
+    {
+        !self.shut && !self.upgraded
     }
 
     // Sends its own end, once nothing waits.

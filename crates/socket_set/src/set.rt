@@ -15,8 +15,19 @@ use std::marker::Model;
 // How many bytes one read takes at most.
 const PIECE: usize = 65_536;
 
-// How many events of clients come at most between two ticks that are both owed.
-const BEFORE_TICK: u32 = 64;
+// For so many milliseconds what came meanwhile is heard between two ticks that are both owed.
+const BETWEEN_TICKS: u64 = 20;
+
+// What stands before the next tick that is owed.
+#[derive(Clone, Copy, Debug, PartialEq, Eq)]
+enum Pause {
+    /// Nothing.
+    None,
+    /// Another was just told.
+    Begins,
+    /// Another was told, and since so many milliseconds of the clock it is heard what came meanwhile.
+    Since(u64),
+}
 
 /// What asking all brought.
 #[derive(Drop)]
@@ -50,8 +61,9 @@ pub struct SocketSet<P: Ports> {
     most: usize,
     accepted: u64,
     ticked: u64,
-    // So many more are heard before the next tick is told, where it is owed already.
-    before_tick: u32,
+    // How often the clock had shown 100 ms more when it was asked last.
+    shown: u64,
+    pause: Pause,
     buffer: Vec<u8>,
     faults: u64,
 }
@@ -68,10 +80,10 @@ impl<P: Ports> Model for SocketSet<P> {
 }
 
 impl<P: Ports + Drop> SocketSet<P> {
-    ghost use Rattle.std.specs.Prelude.{◌≡◌, ◌+◌, ◌-◌, ◌^◌, ◌<◌, true, false, [], None, All, IfOk, IfSome, IsSome, IsNone};
+    ghost use Rattle.std.specs.Prelude.{◌≡◌, ◌+◌, ◌-◌, ◌^◌, ◌≤◌, ◌<◌, ℕ, true, false, [], None, All, IfOk, IfSome, IsSome, IsNone};
     ghost use Rattle.host_base.specs.Outsides.{Rose};
-    ghost use Rattle.socket_set.specs.Clients.{Says, Rests, Keeps, IsStillOrShut, has_failed};
-    ghost use Rattle.socket_set.specs.Sets.{SetState, Tells, IsQuiet, IsIdle, OwesNoTick, told_by, Counted, OnOne, On, Inserts, Leaves, SameDevices, SameClients, is_shut_at, is_open_at, clients};
+    ghost use Rattle.socket_set.specs.Clients.{Says, Rests, Keeps, EndsHearing, IsStillOrShut, has_failed};
+    ghost use Rattle.socket_set.specs.Sets.{SetState, Tells, IsQuiet, IsIdle, OwesNoTick, told_by, Counted, OnOne, On, OnEach, Inserts, Leaves, SameDevices, SameClients, is_shut_at, is_open_at, clients};
 
     /// A set of no client yet, with room for `most`, those that were shut among them.
     pub fn new(alloc: Global, ports: P, most: u32) -> Result<SocketSet<P>, NoMemory>
@@ -95,7 +107,8 @@ impl<P: Ports + Drop> SocketSet<P> {
             most,
             accepted: 0,
             ticked: 0,
-            before_tick: 0,
+            shown: 0,
+            pause: Pause::None,
             buffer: vec![in alloc; 0u8; PIECE]?,
             faults: 0,
         })
@@ -121,55 +134,6 @@ impl<P: Ports + Drop> SocketSet<P> {
     /// something may still be there to be told, which `poll` finds out by going over all clients.
     #[tactic(auto, using(crate::proofs::Sets::counted_two, crate::proofs::Sets::rose_later))]
     pub fn glance(&mut self) -> Option<Event>
-        ensures some { IfSome result (λ event. Tells event self.old self.new) }
-        ensures none { IsNone result → IsQuiet self.old self.new }
-        ensures asked { IsNone result → Rose self.old.ports.waits self.new.ports.waits }
-        ensures counted { Counted self.old self.new }
-        ensures failure { has_failed result ≡ true → Rose self.old.faults self.new.faults }
-    {
-        match self.hear_before_tick() {
-            Some(event) => Some(event),
-            None => self.tick_or_ask(),
-        }
-    }
-
-    // Asks those that are due before the next tick, where one is owed and another was just told: else a loop that was held up
-    // for long would tell all its ticks before it hears what was sent meanwhile.
-    #[tactic(auto, using(crate::proofs::Sets::quiet_self, crate::proofs::Sets::quiet_same, crate::proofs::Sets::counted_self, crate::proofs::Sets::counted_two, crate::proofs::Sets::rose_later))]
-    fn hear_before_tick(&mut self) -> Option<Event>
-        ensures some { IfSome result (λ event. Tells event self.old self.new) }
-        ensures none { IsNone result → IsQuiet self.old self.new }
-        ensures counted { Counted self.old self.new }
-        ensures failure { has_failed result ≡ true → Rose self.old.faults self.new.faults }
-    {
-        if !self.hears_before_tick() {
-            return None;
-        }
-        if self.is_tick_owed() {
-            return self.ask_now();
-        }
-        self.catch_up();
-        None
-    }
-
-    // Counts how often clients are heard before the next tick.
-    fn hears_before_tick(&mut self) -> bool
-        ensures { self.new ≡ self.old }
-    {
-        let hears = self.before_tick > 0;
-        self.before_tick = self.before_tick.saturating_sub(1);
-        hears
-    }
-
-    // The next tick is told once it is owed.
-    fn catch_up(&mut self)
-        ensures { self.new ≡ self.old }
-    {
-        self.before_tick = 0;
-    }
-
-    #[tactic(auto, using(crate::proofs::Sets::counted_two, crate::proofs::Sets::rose_later))]
-    fn tick_or_ask(&mut self) -> Option<Event>
         ensures some { IfSome result (λ event. Tells event self.old self.new) }
         ensures none { IsNone result → IsQuiet self.old self.new }
         ensures asked { IsNone result → Rose self.old.ports.waits self.new.ports.waits }
@@ -250,7 +214,6 @@ impl<P: Ports + Drop> SocketSet<P> {
         ensures quiet { IsQuiet self.old self.new }
         ensures counted { Counted self.old self.new }
     {
-        self.catch_up();
         if self.is_any_busy() || self.is_tick_owed() {
             Polled::Again
         } else {
@@ -278,7 +241,9 @@ impl<P: Ports + Drop> SocketSet<P> {
         ensures rows { SameClients self.old self.new }
         ensures counted { Counted self.old self.new }
     {
-        self.ports.ticks() > self.ticked
+        let shown = self.ports.ticks();
+        self.shown = shown;
+        shown > self.ticked
     }
 
     #[tactic(auto, using(crate::proofs::Sets::quiet_self, crate::proofs::Sets::counted_self))]
@@ -507,23 +472,69 @@ impl<P: Ports + Drop> SocketSet<P> {
         }
     }
 
-    // A tick, where the clock has shown more than were told.
+    /// A tick, where the clock has shown more than were told. Whoever waits for events asks for it before all else, so that
+    /// one comes in its time whatever there is to hear. Where another was just told, what came meanwhile is heard first, for a
+    /// short while: else a loop that was held up for long would tell all its ticks before it hears what was sent.
     #[tactic(auto, using(crate::proofs::Sets::counted_same, crate::proofs::Sets::counted_two, crate::proofs::Sets::quiet_same, crate::proofs::Sets::quiet_self))]
-    fn tick(&mut self) -> Option<Event>
+    pub fn tick(&mut self) -> Option<Event>
         ensures some { IfSome result (λ event. Tells event self.old self.new) }
         ensures none { IsNone result → IsQuiet self.old self.new }
         ensures counted { Counted self.old self.new }
         ensures failure { has_failed result ≡ false }
     {
-        if !self.is_tick_owed() {
+        if !self.is_tick_due() {
             return None;
         }
         self.ticked += 1;
-        self.before_tick = BEFORE_TICK;
+        self.pause = Pause::Begins;
         let secs = self.ports.seconds();
         self.resume();
         self.tick_leaving();
         Some(Event::Tick { secs })
+    }
+
+    // Whether a tick is owed, and nothing stands before it.
+    fn is_tick_due(&mut self) -> bool
+        ensures owed { result ≡ true → self.new.ticked < self.new.ports.shown }
+        ensures room { result ≡ true → self.new.ticked < 2 ^ 64 - 1 }
+        ensures rows { SameClients self.old self.new }
+        ensures counted { Counted self.old self.new }
+    {
+        if !self.is_tick_owed() {
+            self.catch_up();
+            return false;
+        }
+        self.is_paused_enough()
+    }
+
+    /// What came meanwhile was heard: the next tick that is owed is told at once.
+    pub fn catch_up(&mut self)
+        ensures { self.new ≡ self.old }
+    {
+        self.pause = Pause::None;
+    }
+
+    // Whether what came since the last tick was heard, or was for long enough. The time for it begins with the first ask.
+    fn is_paused_enough(&mut self) -> bool
+        ensures { self.new ≡ self.old }
+    {
+        let now = self.millis();
+        match self.pause {
+            Pause::None => true,
+            Pause::Begins => {
+                self.pause = Pause::Since(now);
+                false
+            }
+            Pause::Since(start) => now.saturating_sub(start) >= BETWEEN_TICKS,
+        }
+    }
+
+    // The milliseconds of the clock. Where they pass a tick just now they may be those before it.
+    fn millis(&mut self) -> u64
+        ensures { self.new ≡ self.old }
+    {
+        let passed = 100 - self.ports.millis_to_tick();
+        self.shown.saturating_mul(100).saturating_add(passed)
     }
 
     // Has those that were shut hear the tick.
@@ -574,6 +585,52 @@ impl<P: Ports + Drop> SocketSet<P> {
     {
         self.ended = true;
         self.ports.end_listening();
+    }
+
+    /// What the clients that are there send from now on is not heard, but an end of each that speaks no WebSocket: what it
+    /// sent before comes first.
+    #[tactic(auto, using(crate::proofs::Each::each_done))]
+    pub fn end_hearing(&mut self)
+        ensures { OnEach EndsHearing self.old self.new }
+    {
+        let mut c = self.next_from(0);
+        while c < self.accepted() {
+            self.end_hearing_of(c);
+            c = self.next_from(c + 1);
+        }
+    }
+
+    fn end_hearing_of(&mut self, c: u64)
+        ensures { On c EndsHearing self.old self.new }
+    {
+        if let Some(client) = self.clients.get_mut(&c) {
+            client.end_hearing();
+            client.enqueue(&mut self.due, c);
+        }
+    }
+
+    /// The first client from a number on that is there, or else the number of the next that comes.
+    pub fn next_from(&self, from: u64) -> u64
+        ensures none { (d : ℕ) → from ≤ d → d < result → clients self.now d ≡ None }
+        ensures least { from ≤ self.now.accepted → from ≤ result }
+        ensures most { result ≤ self.now.accepted }
+    {
+        match self.clients.range(from..).next() {
+            Some((c, _)) => (*c).min(self.accepted),
+            None => self.accepted,
+        }
+    }
+
+    /// All clients that are there were shut.
+    pub fn is_all_shut(&self) -> bool
+        ensures { result ≡ true → All (λ row. row.1.shut ≡ true) self.now.rows }
+    {
+        for (_, client) in &self.clients {
+            if !client.is_shut() {
+                return false;
+            }
+        }
+        true
     }
 
     /// Client c was accepted and not shut.

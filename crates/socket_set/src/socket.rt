@@ -1,6 +1,6 @@
 // A client's socket, as the set of sockets sees it.
 ghost use Rattle.std.specs.Prelude.{◌≡◌, ◌≤◌, ◌<◌, ℕ, length};
-ghost use Rattle.socket_set.specs.Sockets.{SocketTells, Receives, Sends};
+ghost use Rattle.socket_set.specs.Sockets.{SocketTells, Receives, Sends, EndsReceiving};
 ghost use Rattle.socket_set.specs.declared.socket.Received.TheVariants.{Bytes};
 ghost use Rattle.socket_set.specs.declared.socket.Sent.TheVariants.{Took};
 
@@ -40,6 +40,10 @@ pub trait Socket {
         ensures within { (n : ℕ) → result ≡ Took n → n ≤ length from.now }
         ensures some { (n : ℕ) → result ≡ Took n → 0 < length from.now → 0 < n }
         ensures bytes { Sends (tells self.old) (tells self.new) from.now result };
+
+    /// Ends its receiving side: what has come may still be read, and behind it comes the end, where the socket can do that.
+    fn end_receiving(&mut self)
+        ensures { EndsReceiving (tells self.old) (tells self.new) };
 
     /// Ends its sending side, behind all that it took.
     fn end_sending(&mut self)

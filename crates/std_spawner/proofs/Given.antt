@@ -1,5 +1,6 @@
 -- What the pump of a child's input left.
-use Rattle.std.proofs.Common.{◌≡◌, ℕ, List, Bool, true, false, Option, Some, None, is_some, is_none, unwrap_or, refl, sym, ◌∙◌, ap, subst}
+use Rattle.std.proofs.Common.{◌≡◌, ◌≤◌, ℕ, List, true, false, Option, Some, None, is_some, is_none, unwrap_or, refl, sym, ◌∙◌, ap, subst, arith}
+use Rattle.host_base.specs.Outsides.{Rose}
 use Rattle.pipe_pump.specs.declared.ends.PumpDone.{PumpDone}
 use Rattle.pipe_pump.specs.declared.feed_ring.FeedRing.{FeedRing}
 use Rattle.pipe_pump.specs.Rings.{SameFeedRing}
@@ -20,7 +21,7 @@ input_end (Some g) f d s h = subst (λ x. IsInputEnd x d) (s g refl) h
 
 -- .. by what the pump says
 pub pumped_end : (taken : ChildInput → Option (List ℕ)) (faults : ChildInput → ℕ) (a ring : FeedRing) (pipe : ChildInput) (d : PumpDone ChildInput)
-    → SameFeedRing a ring → PumpedIn taken faults (λ p. is_none p.pipe) ring pipe d → IsInputEnd a d
+    → SameFeedRing a ring → PumpedIn taken faults (λ p. is_none p.side) ring pipe d → IsInputEnd a d
 pumped_end taken faults a ring pipe d s h = record { of_feed = fed_end_two a ring d.ring s h.of_ring; whole = h.whole; closed = h.closed }
 
 -- .. where it left anything
@@ -28,6 +29,10 @@ pub input_end_if : (m : Option FeedRing) (f : FeedRing) (o : Option (PumpDone Ch
     → IfSome o (IsInputEndOf m) → IfSome o (IsInputEnd f)
 input_end_if m f None s h = tt
 input_end_if m f (Some d) s h = input_end m f d s h
+
+-- a count that rose after it may have
+pub rose_later : (a b c : ℕ) → a ≤ b → Rose b c → Rose a c
+rose_later a b c h k = omega arith
 
 -- a mark is one
 pub marked : (m : Option FeedRing) (f g : FeedRing) → m ≡ Some f → m ≡ Some g → g ≡ f

@@ -1,7 +1,8 @@
 pub mod Commands
 pub mod Programs
-pub mod Strays
+pub mod News
+pub mod NewsEnds
+pub mod Threads
 pub mod Inputs
 pub mod Paces
-pub mod Threads
 pub mod Kids

@@ -1,5 +1,5 @@
 -- When a child is asked for its exit.
-use Rattle.std.specs.Prelude.{◌≡◌, ℕ, ◌+◌, ◌-◌, ◌*◌, min, Bool, true, false, nat_lt, if◌then◌else◌}
+use Rattle.std.specs.Prelude.{◌≡◌, ℕ, ◌+◌, ◌*◌, min, false, nat_lt, if◌then◌else◌}
 
 pub record PaceState : Type 0 where
   -- how often it is still asked with no distance

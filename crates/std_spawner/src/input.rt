@@ -3,15 +3,16 @@ ghost use Rattle.std.specs.Prelude.{◌≡◌};
 ghost use Rattle.pipe_pump.specs.Rings.{IsFreshFeed, SameFeedRing};
 ghost use Rattle.pump_pool.specs.Pumps.{feed_of};
 
-use super::job::{Pump, PumpJob};
+use super::job::{PumpJob, Task, leave_pump};
 use super::pipes::ChildInput;
-use super::stray::{Left, Stray};
 use super::threads::{StartThread, ThreadPool};
 use child_edge::SpawnFault;
 use loop_bell::Bell;
 use pipe_pump::{FeedLook, FeedRing, PumpDone, pump_in};
+use pipe_wait::{PipeSide, PipeWait};
 use pump_pool::{Busy, InHands, InPump, Worker};
 use std::mem;
+use std::process::ChildStdin;
 use std::snapshot::Snapshot;
 use std::sync::Wait;
 
@@ -49,6 +50,13 @@ impl Held {
         }
     }
 
+    // The program runs.
+    fn open(&mut self, side: PipeSide<ChildStdin>)
+        ensures { self.new.mark ≡ self.old.mark }
+    {
+        self.pipe.open(side);
+    }
+
     // Whether it has something to move.
     fn look(&mut self) -> FeedLook
         ensures { self.new.mark ≡ self.old.mark }
@@ -68,7 +76,7 @@ impl Held {
             bell: _,
             mark: _,
         } = self;
-        pump_in(rt, feed, pipe)
+        pump_in(rt, feed, pipe, &mut PipeWait::none())
     }
 
     // Gives it to a thread.
@@ -87,7 +95,7 @@ impl Held {
         Running {
             pump,
             mark,
-            thread: thread.give(PumpJob::new(Pump::Input(job), bell)),
+            thread: thread.give(PumpJob::new(Task::Input(job), bell)),
         }
     }
 }
@@ -103,7 +111,8 @@ pub(crate) struct Running {
 
 impl Running {
     ghost use Rattle.std.specs.Prelude.{◌≡◌, IfSome};
-    ghost use Rattle.std_spawner.specs.Inputs.{left_of, IsInputEnd};
+    ghost use Rattle.std_spawner.specs.Inputs.{IsInputEnd};
+    ghost use Rattle.std_spawner.specs.Threads.{GivesThread};
 
     // What it left, once it has ended.
     #[tactic(auto, using(crate::proofs::Given::pumped_end))]
@@ -131,16 +140,16 @@ impl Running {
         !self.pump.has_ended()
     }
 
-    // It still runs.
-    fn into_left(self) -> Left
-        ensures { result ≡ left_of (Input.Running self) }
+    // Its thread, of one that still runs and whose pipe is let go.
+    fn leave(self) -> Option<Worker<PumpJob>>
+        ensures { GivesThread self.thread result }
     {
         let Running {
-            pump,
+            pump: _,
             thread,
             mark: _,
         } = self;
-        Left::Runs(Stray::Input(pump, thread))
+        leave_pump(thread)
     }
 }
 
@@ -155,8 +164,18 @@ pub(crate) enum Input {
 
 impl Input {
     ghost use Rattle.std.specs.Prelude.{◌≡◌, Some, None, IfOk, IfSome};
-    ghost use Rattle.std_spawner.specs.Inputs.{feed_mark, left_of, IsInputEnd, IsInputEndOf};
+    ghost use Rattle.std_spawner.specs.Inputs.{feed_mark, LeavesThread, IsInputEnd, IsInputEndOf};
     ghost use Rattle.pipe_pump.specs.declared.feed_ring.FeedRing.{FeedRing};
+
+    /// The program runs, and this is our end of its pipe.
+    pub fn open(&mut self, side: PipeSide<ChildStdin>)
+        ensures { feed_mark self.new ≡ feed_mark self.old }
+    {
+        match self {
+            Input::Held(held) => held.open(side),
+            Input::Running(_) | Input::Ended(_) => {}
+        }
+    }
 
     /// Whether there is nothing to be done for it now: it has nothing to move, or its thread still runs it, or its end was
     /// given.
@@ -252,15 +271,14 @@ impl Input {
         }
     }
 
-    /// What is left of its thread.
-    pub fn into_left(self) -> Left
-        ensures { result ≡ left_of self }
+    /// What is left of its thread, where its pipe is let go.
+    pub fn leave(self) -> Option<Worker<PumpJob>>
+        ensures { LeavesThread self result }
     {
         match self {
-            Input::Held(_held) => Left::Nothing,
-            Input::Ended(None) => Left::Nothing,
-            Input::Ended(Some(thread)) => Left::Waits(thread),
-            Input::Running(running) => running.into_left(),
+            Input::Held(_held) => None,
+            Input::Ended(thread) => thread,
+            Input::Running(running) => running.leave(),
         }
     }
 }

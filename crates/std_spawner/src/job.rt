@@ -1,47 +1,69 @@
-// What a pump's thread runs.
-use super::pipes::{ChildInput, ChildOutput, StandardInput};
+// What a thread runs.
+ghost use Rattle.std_spawner.specs.Threads.{GivesThread};
+
+use super::pipes::{ChildInput, StandardInput};
+use super::start::StartJob;
 use loop_bell::Bell;
-use pump_pool::{InJob, Job, OutJob, Station};
+use pipe_wait::{PipeWait, PipeWaker};
+use pump_pool::{Busy, InJob, Job, OutJob, Station, Worker, start_thread};
+use std::net::Net;
+use std::process::{Processes, SystemProcess};
 use std::sync::Wait;
 use std::thread::Threads;
+use std::time::Clock;
 
-/// One pump of a child, or the one of standard input.
+/// What is done for a child, or the pump of standard input.
 #[derive(Drop)]
-pub(crate) enum Pump {
-    Output(OutJob<ChildOutput>),
+pub(crate) enum Task {
+    Start(StartJob),
     Input(InJob<ChildInput>),
     Client(OutJob<StandardInput>),
 }
 
-/// One pump, after which the loop is woken.
+/// One task, after which the loop is woken.
 #[derive(Drop)]
 pub struct PumpJob {
-    pump: Pump,
+    task: Task,
     bell: Bell,
 }
 
 impl PumpJob {
-    pub(crate) fn new(pump: Pump, bell: Bell) -> Self {
-        PumpJob { pump, bell }
+    pub(crate) fn new(task: Task, bell: Bell) -> Self {
+        PumpJob { task, bell }
     }
 
-    /// Starts the thread of a station, and answers whether the system gave one.
-    pub fn start_thread<R: Threads + Wait + Copy + Drop + Send + 'static>(
-        rt: &R,
-        station: Station<PumpJob>,
-    ) -> bool {
-        station.start(rt)
+    /// Starts the thread of a station, where the system gives one, and answers what ends its waits for pipes.
+    pub fn start_thread<
+        R: Processes<Started = SystemProcess>
+            + Threads
+            + Wait
+            + Net
+            + Clock
+            + Copy
+            + Drop
+            + Send
+            + 'static,
+    >(rt: &R, station: Station<PumpJob>) -> Option<PipeWaker> {
+        start_thread(rt, station)
     }
 }
 
-impl Job for PumpJob {
-    fn run<R: Wait>(self, rt: &R) {
-        let PumpJob { pump, bell } = self;
-        match pump {
-            Pump::Output(job) => job.run(rt),
-            Pump::Input(job) => job.run(rt),
-            Pump::Client(job) => job.run(rt),
+impl<R: Processes<Started = SystemProcess> + Wait + Clock> Job<R> for PumpJob {
+    fn run(self, rt: &R, wait: &mut PipeWait) {
+        let PumpJob { task, bell } = self;
+        match task {
+            Task::Start(job) => job.run(rt, wait),
+            Task::Input(job) => job.run(rt, wait),
+            Task::Client(job) => job.run(rt, wait),
         }
         bell.ring();
     }
+}
+
+/// Has a thread end a pump whose pipe is let go: it waits for another then, though it may still be at that.
+pub(crate) fn leave_pump(thread: Busy<PumpJob>) -> Option<Worker<PumpJob>>
+    ensures { GivesThread thread result }
+{
+    thread.wake();
+    thread.worker()
 }

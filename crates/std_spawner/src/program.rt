@@ -1,14 +1,11 @@
 // A program of the system, and the launch that it was started by.
-ghost use Rattle.std.specs.Prelude.{◌≡◌, pos, Some, IfOk};
+ghost use Rattle.std.specs.Prelude.{◌≡◌, pos, Some};
 ghost use Rattle.std.specs.IoError.{raw_os_error};
 ghost use Rattle.std_spawner.specs.Commands.{Runs};
 
-use super::command::command;
-use child_edge::SpawnFault;
 use host_base::Launch;
-use std::alloc::Global;
+use pipe_wait::PipeSide;
 use std::io;
-use std::io::ErrorKind;
 use std::process::{Child, ChildStdin, ChildStdout, Command, Processes, SystemProcess};
 use std::snapshot::Snapshot;
 
@@ -32,56 +29,33 @@ impl Program {
     ghost use Rattle.std.specs.Prelude.{◌≡◌, true, IfOk, IfErr};
     ghost use Rattle.std_spawner.specs.Programs.{launch_of, has_ended, OfSameLaunch};
 
-    // Starts a command. Nothing is done to it between its mark and its start.
-    fn begin<R: Processes<Started = SystemProcess>>(
+    /// Starts the command of a launch. Nothing is done to it between its mark and its start.
+    pub fn begin<R: Processes<Started = SystemProcess>>(
         rt: &R,
         command: Command,
-        launch: &Launch,
+        launch: Snapshot<Launch>,
     ) -> io::Result<Self>
-        requires { Runs command launch.now }
-        ensures { IfOk result (λ program. launch_of program ≡ launch.now) }
+        requires { Runs command launch.value }
+        ensures { IfOk result (λ program. launch_of program ≡ launch.value) }
     {
         let mut command = command;
         let mark = Snapshot::of(&command);
         Ok(Program {
             process: command.spawn(rt)?,
             command: mark,
-            launch: Snapshot::of(launch),
+            launch,
             lost: None,
         })
     }
 
-    fn try_start<R: Processes<Started = SystemProcess>>(
-        rt: &R,
-        alloc: Global,
-        launch: &Launch,
-    ) -> io::Result<Self>
-        ensures { IfOk result (λ program. launch_of program ≡ launch.now) }
-    {
-        Program::begin(rt, command(alloc, launch)?, launch)
-    }
-
-    /// Starts the program of a launch, with pipes at its input and its output.
-    pub fn start<R: Processes<Started = SystemProcess>>(
-        rt: &R,
-        alloc: Global,
-        launch: &Launch,
-    ) -> Result<Self, SpawnFault>
-        ensures { IfOk result (λ program. launch_of program ≡ launch.now) }
-    {
-        match Program::try_start(rt, alloc, launch) {
-            Ok(program) => Ok(program),
-            Err(error) if error.kind() == ErrorKind::OutOfMemory => Err(SpawnFault::NoMemory),
-            Err(_) => Err(SpawnFault::Failed),
-        }
-    }
-
-    /// Its pipes, once.
-    pub fn take_pipes(&mut self) -> Option<(ChildStdin, ChildStdout)>
+    /// Our ends of its pipes, which don't block, once.
+    pub fn take_sides(&mut self) -> Option<(PipeSide<ChildStdin>, PipeSide<ChildStdout>)>
         ensures launch { OfSameLaunch self.old self.new }
     {
         match (self.process.stdin.take(), self.process.stdout.take()) {
-            (Some(input), Some(output)) => Some((input, output)),
+            (Some(input), Some(output)) => {
+                Some((PipeSide::write(input).ok()?, PipeSide::read(output).ok()?))
+            }
             _ => None,
         }
     }

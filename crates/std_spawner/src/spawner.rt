@@ -1,43 +1,65 @@
 // What starts real children.
 ghost use Rattle.std.specs.Prelude.{◌≡◌, IfOk};
 ghost use Rattle.pipe_pump.specs.Rings.{IsFreshRing, IsFreshFeed};
+ghost use Rattle.std_spawner.specs.Commands.{Runs};
 ghost use Rattle.std_spawner.specs.Kids.{IsNewStdKid};
-ghost use Rattle.std_spawner.specs.Programs.{launch_of};
+ghost use Rattle.std_spawner.specs.NewsEnds.{launch_told, launch_heard};
 
+use super::cell::Shared;
+use super::command::command;
 use super::input::{Held, Input};
-use super::job::{Pump, PumpJob};
+use super::job::{PumpJob, Task};
 use super::kid::StdKid;
+use super::news::{Listener, Teller};
 use super::pipes::{ChildInput, ChildOutput, StandardInput};
-use super::program::Program;
+use super::start::{OutputJob, StartJob};
 use super::threads::{StartThread, ThreadPool};
-use child_edge::{SpawnFault, Spawner};
+use child_edge::{Kid, SpawnFault, Spawner};
 use host_base::{Launch, NoMemory};
 use loop_bell::Bell;
 use pipe_pump::{FeedRing, PumpRing};
+use pipe_wait::Release;
 use pump_pool::{Busy, InHands, OutHands, OutPump, Worker};
 use std::alloc::Global;
 use std::io::Stdin;
-use std::process::{Processes, SystemProcess};
+use std::process::{Command, Processes, SystemProcess};
 use std::snapshot::Snapshot;
 use std::sync::Wait;
 use std::time::Clock;
 
-/// What the pumps of one child need besides its pipes and its rings.
+/// What one child needs besides its rings.
 #[derive(Drop)]
-struct Pumps {
-    output_bell: Bell,
-    output_end_bell: Bell,
-    input_bell: Bell,
-    input_end_bell: Bell,
+struct Parts {
+    start: Starts,
+    output: ChildOutput,
     output_hands: OutHands<ChildOutput>,
+    output_release: Release,
+    input: ChildInput,
     input_hands: InHands<ChildInput>,
-    output_thread: Worker<PumpJob>,
+    input_bell: Bell,
+    shared: Shared,
+    release: Release,
+}
+
+/// What its start needs.
+#[derive(Drop)]
+struct Starts {
+    command: Command,
+    launch: Snapshot<Launch>,
+    teller: Teller,
+    listener: Listener,
+    shared: Shared,
+    bell: Bell,
+    end_bell: Bell,
+    ghost runs: { Runs command launch.value },
+    ghost told: { launch_told teller ≡ launch.value },
+    ghost heard: { launch_heard listener ≡ launch.value },
 }
 
 /// Starts programs of the system. The pumps of a child run in threads of its own, that of its input once there is
-/// something to move; idle threads are used again, and a bounded number of them is kept. A pump that still runs when its
-/// child is taken back, since a program which that left behind holds its pipe, keeps its thread until it ends. While 128
-/// of these are left a start is Failed.
+/// something to move; idle threads are used again, and a bounded number of them is kept. Where a pump still runs when its
+/// child is taken back, since a program which that left behind holds its pipe, the pipe is let go: our end is closed, and
+/// the thread is used again.
 #[derive(Drop)]
 pub struct StdSpawner<R, T> {
     rt: R,
@@ -67,16 +89,38 @@ impl<R: Drop, T: StartThread + Drop> StdSpawner<R, T> {
         })
     }
 
-    // Four bells, and room for the ends of two pumps.
-    fn pumps_of(&self, output_thread: Worker<PumpJob>) -> Result<Pumps, NoMemory> {
-        Ok(Pumps {
-            output_bell: self.bell.another()?,
-            output_end_bell: self.bell.another()?,
-            input_bell: self.bell.another()?,
-            input_end_bell: self.bell.another()?,
+    // The command of a launch, and how its start is told.
+    fn starts_of(&self, launch: &Launch, shared: Shared) -> Result<Starts, NoMemory>
+        ensures { IfOk result (λ starts. starts.launch.value ≡ launch.now) }
+    {
+        let (teller, listener) = Teller::pair(self.alloc, launch)?;
+        Ok(Starts {
+            command: command(self.alloc, launch)?,
+            launch: Snapshot::of(launch),
+            teller,
+            listener,
+            shared,
+            bell: self.bell.another()?,
+            end_bell: self.bell.another()?,
+        })
+    }
+
+    // All that a child needs: no memory is wanting once it was handed over.
+    fn parts_of(&self, launch: &Launch) -> Result<Parts, NoMemory>
+        ensures { IfOk result (λ parts. parts.start.launch.value ≡ launch.now) }
+    {
+        let release = Release::new(self.alloc)?;
+        let shared = Shared::new(self.alloc)?;
+        Ok(Parts {
+            start: self.starts_of(launch, shared.another()?)?,
+            output: ChildOutput::closed(self.bell.another()?),
             output_hands: OutHands::new(self.alloc)?,
+            output_release: release.another()?,
+            input: ChildInput::closed(release.another()?, self.bell.another()?),
             input_hands: InHands::new(self.alloc)?,
-            output_thread,
+            input_bell: self.bell.another()?,
+            shared,
+            release,
         })
     }
 }
@@ -109,21 +153,6 @@ impl<R: Wait + Drop, T: StartThread + Drop> StdSpawner<R, T> {
         }
     }
 
-    // All that the pumps of a child need, so that the output of a child which was started always has its pump. There is
-    // none while too many pumps of children that are gone still run.
-    fn pumps(&mut self) -> Result<Pumps, SpawnFault>
-        ensures { self.new ≡ record self.old { client = self.new.client } }
-    {
-        if !self.threads.may_start(&self.rt) {
-            return Err(SpawnFault::Failed);
-        }
-        let thread = self.thread()?;
-        match self.pumps_of(thread) {
-            Ok(pumps) => Ok(pumps),
-            Err(_) => Err(SpawnFault::NoMemory),
-        }
-    }
-
     // A thread, a bell for its pump and one for the pump's end, and room for that end.
     fn begin_input(
         &mut self,
@@ -143,8 +172,8 @@ impl<R: Wait + Drop, T: StartThread + Drop> StdSpawner<R, T> {
             self.threads.put(&self.rt, thread);
             return Err(SpawnFault::NoMemory);
         };
-        let (job, pump) = hands.pump(StandardInput::new(input, bell), ring);
-        self.client = Some(thread.give(PumpJob::new(Pump::Client(job), end_bell)));
+        let (job, pump) = hands.pump(StandardInput::closed(bell).opened(input), ring);
+        self.client = Some(thread.give(PumpJob::new(Task::Client(job), end_bell)));
         Ok(pump)
     }
 
@@ -168,14 +197,12 @@ impl<R: Wait + Drop, T: StartThread + Drop> StdSpawner<R, T> {
     }
 }
 
-impl<R: Processes<Started = SystemProcess> + Wait + Copy + Drop, T: StartThread + Drop> StdSpawner<
-    R,
-    T,
-> {
+impl<R: Wait + Copy + Drop, T: StartThread + Drop> StdSpawner<R, T> {
     ghost use Rattle.std.specs.Prelude.{◌≡◌, IfOk};
     ghost use Rattle.pipe_pump.specs.Rings.{IsFreshRing, IsFreshFeed};
     ghost use Rattle.std_spawner.specs.Kids.{IsNewStdKid};
 
+    // Hands the start over to a thread.
     fn start_kid(
         &mut self,
         launch: &Launch,
@@ -188,66 +215,76 @@ impl<R: Processes<Started = SystemProcess> + Wait + Copy + Drop, T: StartThread 
         ensures count { self.new.faults ≡ self.old.faults }
         ensures taken { self.new.taken ≡ self.old.taken }
     {
-        let Ok(threads) = self.threads.another() else {
+        let (Ok(threads), Ok(parts)) = (self.threads.another(), self.parts_of(launch)) else {
             return Err(SpawnFault::NoMemory);
         };
-        let pumps = self.pumps()?;
-        match Program::start(&self.rt, self.alloc, launch) {
-            Ok(program) => join(self.rt, threads, program, pumps, ring, feed),
-            Err(fault) => {
-                threads.put(&self.rt, pumps.output_thread);
-                Err(fault)
-            }
-        }
+        let thread = self.thread()?;
+        Ok(hand_over(self.rt, threads, thread, parts, ring, feed))
     }
 }
 
-// A program and its pumps. That of its output begins at once.
-fn join<R: Drop, T: Drop>(
+// Hands a start over to this thread.
+fn hand_over<R: Drop, T: Drop>(
     rt: R,
     threads: ThreadPool<T>,
-    program: Program,
-    pumps: Pumps,
+    thread: Worker<PumpJob>,
+    parts: Parts,
     ring: PumpRing,
     feed: FeedRing,
-) -> Result<StdKid<R, T>, SpawnFault>
+) -> StdKid<R, T>
     requires ring { IsFreshRing ring }
     requires feed { IsFreshFeed feed }
-    ensures kid { IfOk result (IsNewStdKid (launch_of program) ring feed) }
+    ensures { IsNewStdKid parts.start.launch.value ring feed result }
 {
-    let mut program = program;
-    let Some((input, output)) = program.take_pipes() else {
-        // A program without its pipes is of no use.
-        program.end();
-        return Err(SpawnFault::Failed);
-    };
-    let fed = Snapshot::of(&feed);
-    let Pumps {
-        output_bell,
-        output_end_bell,
-        input_bell,
-        input_end_bell,
+    let Parts {
+        start,
+        output,
         output_hands,
+        output_release,
+        input,
         input_hands,
-        output_thread,
-    } = pumps;
-    let (job, pump) = output_hands.pump(ChildOutput::new(output, output_bell), ring);
-    let job = PumpJob::new(Pump::Output(job), output_end_bell);
-    let held = Held::new(
-        ChildInput::new(input, input_bell),
-        feed,
-        input_hands,
-        input_end_bell,
-    );
-    Ok(StdKid::new(
+        input_bell,
+        shared,
+        release,
+    } = parts;
+    let fed = Snapshot::of(&feed);
+    let held = Held::new(input, feed, input_hands, input_bell);
+    let (back, pump) = output_hands.back(&output, &ring);
+    let output = OutputJob::new(output, ring, back, output_release);
+    let (job, listener) = start.job(output);
+    StdKid::new(
         rt,
         threads,
-        program,
+        listener,
+        shared,
         pump,
-        output_thread.give(job),
+        thread.give(job),
         fed,
         Input::Held(held),
-    ))
+        release,
+    )
+}
+
+impl Starts {
+    ghost use Rattle.std.specs.Prelude.{◌≡◌};
+    ghost use Rattle.std_spawner.specs.NewsEnds.{launch_heard};
+
+    // The job of a thread, and what hears of the start.
+    fn job(self, output: OutputJob) -> (PumpJob, Listener)
+        ensures { launch_heard result.1 ≡ self.launch.value }
+    {
+        let Starts {
+            command,
+            launch,
+            teller,
+            listener,
+            shared,
+            bell,
+            end_bell,
+        } = self;
+        let job = StartJob::new(command, launch, teller, shared, bell, output);
+        (PumpJob::new(Task::Start(job), end_bell), listener)
+    }
 }
 
 impl<

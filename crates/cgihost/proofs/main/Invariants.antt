@@ -1,4 +1,4 @@
 use Rattle.cgihost.proofs.main.Given as goal
 
-abbrev pub ghosts-run_in : goal.ghosts-run_in
-ghosts-run_in g a = record { name = a.blank.name; parts = a.blank.parts }
+abbrev pub ghosts-run_with : goal.ghosts-run_with
+ghosts-run_with g a = record { name = a.blank.name; parts = a.blank.parts }

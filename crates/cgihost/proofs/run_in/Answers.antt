@@ -1,5 +1,10 @@
+-- What each loop runs in may go to a thread of its own.
 use denote.Param.Send.{sendable}
 use Rattle.std.proofs.Crossing.{crosses}
+use Rattle.http_server.proofs.log.Log.TheSendSync as log
+use Rattle.told_outside.proofs.tallies.Tallies.TheSendSync as tallies
+use Rattle.log_outside.proofs.outside.LogOutside.TheSendSync as logged
+use Rattle.doc_files.proofs.outside.DocOutside.TheSendSync as documents
 use Rattle.std_spawner.proofs.Crosses.{belled_send, spawner_send, kid_send}
 use Rattle.once_edge.proofs.Crosses.{once_send}
 use Rattle.net_sockets.proofs.ports.NetPorts.TheSendSync as ports
@@ -16,4 +21,5 @@ run-requires-send-W-Out g c κs within =
     let k = c.type_bounds.send-K in
     let l = c.type_bounds.send-L in
     let y = c.type_bounds.sync-L in
-    search (sendable, crosses, either.the_field_send, once_send, loop_send, spawner_send, kid_send, belled_send, ports.the_field_send, socket.the_field_send, orders.the_field_send) depth 40 fits 50000
+    let d = c.type_bounds.send-D in
+    search (sendable, crosses, log.the_send, tallies.the_field_send, logged.the_field_send, documents.the_send, either.the_field_send, once_send, loop_send, spawner_send, kid_send, belled_send, ports.the_field_send, socket.the_field_send, orders.the_field_send) depth 90 fits 50000

@@ -1,6 +1,7 @@
 use super::acts::launch;
 use super::events::{letter_of_child, number};
-use super::kids::{FakeSpawner, PLAIN, Plan};
+use super::kids::{FakeSpawner, PLAIN, Plan, Start};
+use super::pipes::PipeEnd;
 use super::set::Kids;
 use child_edge::{SpawnFault, Spawner};
 use host_base::NoMemory;
@@ -70,6 +71,7 @@ fn gives<S: Spawner + Drop>(set: &mut Kids<S>, output: &[u8]) -> bool {
 
 // Whether child 0, whose input was fed and ended, is told of to its end.
 fn runs_to_its_end<S: Spawner + Drop>(set: &mut Kids<S>) -> bool {
+    let started = tells(set, b's', 0);
     let took = takes(set, 3);
     // Nothing is wanted, and it runs.
     let ran = tells(set, b'-', 0);
@@ -80,7 +82,7 @@ fn runs_to_its_end<S: Spawner + Drop>(set: &mut Kids<S>) -> bool {
     let ended = tells(set, b'e', 0);
     let settled = set.running() == 0;
     let quiet = tells(set, b'-', 0);
-    took && ran && gave && exited && ended && settled && quiet && set.len() == 0
+    started && took && ran && gave && exited && ended && settled && quiet && set.len() == 0
 }
 
 // .. and it was started before.
@@ -118,30 +120,45 @@ fn told_of<S: Spawner + Drop>(
 fn what_fails_is_told(rt: HostRuntime) -> Result<(), Fail> {
     let alloc = rt.alloc();
     // (what the program does, what is told while its output is asked for at each turn)
-    let rows: [(Plan, &[u8]); 5] = [
-        (Plan { pieces: 0, ..PLAIN }, b"e-d-"),
+    let rows: [(Plan, &[u8]); 7] = [
+        (Plan { pieces: 0, ..PLAIN }, b"se-d-"),
         (
             Plan {
-                pieces: 0,
-                out_fails: true,
+                output: PipeEnd::LetGo,
                 ..PLAIN
             },
-            b"x-d-",
-        ),
-        (
-            Plan {
-                out_fails: true,
-                ..PLAIN
-            },
-            b"bxd-",
+            b"sbxd-",
         ),
         (
             Plan {
                 pieces: 0,
-                in_fails: true,
+                input: PipeEnd::LetGo,
                 ..PLAIN
             },
-            b"tegd-",
+            b"stegd-",
+        ),
+        (
+            Plan {
+                pieces: 0,
+                output: PipeEnd::Failed,
+                ..PLAIN
+            },
+            b"sx-d-",
+        ),
+        (
+            Plan {
+                output: PipeEnd::Failed,
+                ..PLAIN
+            },
+            b"sbxd-",
+        ),
+        (
+            Plan {
+                pieces: 0,
+                input: PipeEnd::Failed,
+                ..PLAIN
+            },
+            b"stegd-",
         ),
         (
             Plan {
@@ -150,17 +167,63 @@ fn what_fails_is_told(rt: HostRuntime) -> Result<(), Fail> {
                 exits_after: 0,
                 ..PLAIN
             },
-            b"e--d-",
+            b"se--d-",
         ),
     ];
     for (plan, told) in rows {
         let letters = told_of(
             alloc,
             FakeSpawner::new(rt, alloc, plan),
-            plan.in_fails,
+            !matches!(plan.input, PipeEnd::Good),
             told.len(),
         )?;
         assert_eq!(rt; letters.as_slice(), told);
+    }
+    Ok(())
+}
+
+// What is told of child 3 at each of so many turns, which was fed, whose input was ended, and which was killed and given up or
+// not before its start was told; and whether it is kept no more.
+fn told_of_late<S: Spawner + Drop>(
+    alloc: Global,
+    spawner: S,
+    kills: bool,
+    turns: usize,
+) -> Result<(Vec<u8>, bool), Fail> {
+    let mut set = started(alloc, spawner, 1, 3, 7)?;
+    set.feed(3, b"abc")?;
+    set.end_input(3);
+    if kills {
+        set.kill(3);
+        set.release(3);
+    }
+    let told = told_in(alloc, &mut set, 3, turns)?;
+    Ok((told, set.is_empty() && set.running() == 0))
+}
+
+#[test]
+fn a_start_is_told_late(rt: HostRuntime) -> Result<(), Fail> {
+    let alloc = rt.alloc();
+    let late = Plan {
+        starts_after: 2,
+        ..PLAIN
+    };
+    let failing = Plan {
+        start: Start::Fails,
+        ..late
+    };
+    // (what becomes of the start, it is killed before that, what is told)
+    let rows: [(Plan, bool, &[u8]); 4] = [
+        (late, false, b"--stbed-"),
+        (late, true, b"--std-"),
+        (failing, false, b"--q--"),
+        (failing, true, b"--q--"),
+    ];
+    for (plan, kills, told) in rows {
+        let spawner = FakeSpawner::new(rt, alloc, plan);
+        let (letters, is_over) = told_of_late(alloc, spawner, kills, told.len())?;
+        assert_eq!(rt; letters.as_slice(), told);
+        assert!(rt; is_over, "{told:?}");
     }
     Ok(())
 }
@@ -190,7 +253,7 @@ fn start_fails<S: Spawner + Drop>(
 fn a_start_that_fails_keeps_nothing(rt: HostRuntime) -> Result<(), Fail> {
     let alloc = rt.alloc();
     let plan = Plan {
-        start_fails: true,
+        start: Start::Refused,
         ..PLAIN
     };
     let (started, is_empty) = start_fails(alloc, FakeSpawner::new(rt, alloc, plan))?;
@@ -206,10 +269,11 @@ fn is_settled_by_exit<S: Spawner + Drop>(set: &mut Kids<S>) -> bool {
     set.want(5);
     set.kill(5);
     let ran = set.running() == 1;
+    let started = tells(set, b's', 5);
     let exited = tells(set, b'd', 5);
     let ended = set.running() == 0;
     let quiet = tells(set, b'-', 0);
-    ran && exited && ended && quiet && set.len() == 0
+    ran && started && exited && ended && quiet && set.len() == 0
 }
 
 // .. and it was started before.

@@ -47,7 +47,7 @@ pub fn number(event: &Event) -> u64 {
 pub fn letter_of_child(event: &Event) -> u8 {
     match letter(event) {
         b'i' => b'g',
-        letter @ (b'b' | b'e' | b'x' | b't' | b'd') => letter,
+        letter @ (b's' | b'q' | b'b' | b'e' | b'x' | b't' | b'd') => letter,
         _ => b'?',
     }
 }

@@ -2,37 +2,69 @@
 ghost use Rattle.std.specs.Prelude.{◌≡◌, Some, None};
 ghost use Rattle.pipe_pump.specs.Rings.{IsFreshFeed};
 
-use super::pipes::{ALL, Drain, Source, one_more};
-use child_edge::{Kid, Reap, SpawnFault, Spawner};
+use super::pipes::{ALL, Drain, PipeEnd, Source, one_more};
+use super::watch::Watch;
+use child_edge::{Birth, Kid, Reap, SpawnFault, Spawner};
 use host_base::Launch;
 use pipe_pump::{FeedRing, PumpDone, PumpEnd, PumpRing, pump_in};
+use pipe_wait::PipeWait;
 use pump_pool::{Job, OutHands, OutJob, OutPump, Worker};
-use std::alloc::Global;
+use std::alloc::{AllocError, Global};
 use std::snapshot::Snapshot;
 use std::sync::atomic::AtomicBool;
 use std::sync::{Arc, Wait};
 
+/// What becomes of a start.
+#[derive(Clone, Copy, Debug, PartialEq, Eq)]
+pub enum Start {
+    /// The program runs.
+    Good,
+    /// It is handed over, and none runs.
+    Fails,
+    /// It isn't handed over.
+    Refused,
+}
+
+/// What a watch is to show before something is told of a program.
+#[derive(Clone, Copy, Debug)]
+pub struct Hours {
+    pub start: u64,
+    pub output: u64,
+    pub exit: u64,
+}
+
 /// What a program does.
-#[derive(Clone, Copy)]
+#[derive(Clone, Copy, Debug)]
 pub struct Plan {
-    /// How many bytes of output it gives, after which its output ends or fails.
+    pub start: Start,
+    /// So many asks what became of its start are too early.
+    pub starts_after: u32,
+    /// How many bytes of output it gives, and what comes after them.
     pub pieces: u32,
-    pub out_fails: bool,
-    pub in_fails: bool,
+    pub output: PipeEnd,
+    /// Whether it takes its input, or how that ends at the first byte.
+    pub input: PipeEnd,
     /// So many asks for its exit fail, and then so many are too early.
     pub reaps_fail: u32,
     pub exits_after: u32,
-    pub start_fails: bool,
+    /// Where it is watched.
+    pub hours: Hours,
 }
 
 /// Three bytes, and an exit that is asked for three times.
 pub const PLAIN: Plan = Plan {
+    start: Start::Good,
+    starts_after: 0,
     pieces: 3,
-    out_fails: false,
-    in_fails: false,
+    output: PipeEnd::Good,
+    input: PipeEnd::Good,
     reaps_fail: 0,
     exits_after: 2,
-    start_fails: false,
+    hours: Hours {
+        start: 0,
+        output: 0,
+        exit: 0,
+    },
 };
 
 /// The pump of an input, which runs when it is asked for.
@@ -52,8 +84,10 @@ pub struct FakeKid<R> {
     outward: Option<OutJob<Source>>,
     output: OutPump<Source>,
     inward: Option<Inward>,
-    reaps_fail: u32,
-    exits_after: u32,
+    /// What it is still to do.
+    plan: Plan,
+    watch: Option<Arc<Watch, Global>>,
+    birth: Option<Birth>,
     out_end: Option<PumpEnd>,
     in_end: Option<PumpEnd>,
     reaped: bool,
@@ -62,8 +96,56 @@ pub struct FakeKid<R> {
     out_looks: u64,
     in_looks: u64,
     reap_looks: u64,
+    start_looks: u64,
     ghost in_feed: { (x : _) → inward ≡ Some x → x.ring ≡ feed.value },
     ghost in_open: { (x : _) → inward ≡ Some x → in_end ≡ None },
+}
+
+impl<R> FakeKid<R> {
+    ghost use Rattle.std.specs.Prelude.{◌≡◌, ◌≤◌};
+    ghost use Rattle.host_base.specs.Outsides.{Rose};
+
+    // Whether the watch, if there is one, shows this.
+    fn has_come(&self, hour: u64) -> bool {
+        match &self.watch {
+            Some(watch) => watch.shows(hour),
+            None => true,
+        }
+    }
+
+    // Whether what became of its start isn't told yet.
+    fn is_early(&mut self) -> bool
+        ensures { self.new ≡ record self.old { plan = self.new.plan } }
+    {
+        if !self.has_come(self.plan.hours.start) {
+            return true;
+        }
+        if self.plan.starts_after == 0 {
+            return false;
+        }
+        self.plan.starts_after -= 1;
+        true
+    }
+
+    // What became of its start. A failure is counted.
+    fn born(&mut self) -> Birth
+        ensures rest { self.new ≡ record self.old { faults = self.new.faults } }
+        ensures count { self.old.faults ≤ self.new.faults }
+        ensures cause { result ≡ Birth.Unborn → Rose self.old.faults self.new.faults }
+    {
+        match self.plan.start {
+            Start::Good => Birth::Born,
+            Start::Fails | Start::Refused => {
+                self.faults = one_more(self.faults);
+                Birth::Unborn
+            }
+        }
+    }
+
+    // It never ran, or it was reaped.
+    fn is_over(&self) -> bool {
+        self.reaped || matches!(self.birth, Some(Birth::Unborn))
+    }
 }
 
 impl<R: Wait + Drop> Kid for FakeKid<R> {
@@ -79,6 +161,7 @@ impl<R: Wait + Drop> Kid for FakeKid<R> {
           launch = kid.launch.value;
           ring = ring_of kid.output;
           feed = kid.feed.value;
+          birth = kid.birth;
           out_end = kid.out_end;
           in_end = kid.in_end;
           reaped = kid.reaped;
@@ -87,15 +170,26 @@ impl<R: Wait + Drop> Kid for FakeKid<R> {
           out_looks = kid.out_looks;
           in_looks = kid.in_looks;
           reap_looks = kid.reap_looks;
+          start_looks = kid.start_looks;
         } };
+
+    fn started(&mut self) -> Option<Birth> {
+        self.start_looks = one_more(self.start_looks);
+        if self.birth.is_some() || self.is_early() {
+            return None;
+        }
+        let birth = self.born();
+        self.birth = Some(birth);
+        Some(birth)
+    }
 
     fn out_done(&mut self) -> Option<PumpDone<Source>> {
         self.out_looks = one_more(self.out_looks);
-        if self.out_end.is_some() {
+        if self.out_end.is_some() || !self.has_come(self.plan.hours.output) {
             return None;
         }
         if let Some(job) = self.outward.take() {
-            job.run(&self.rt);
+            job.run(&self.rt, &mut PipeWait::none());
         }
         let done = self.output.done()?;
         self.faults = one_more(self.faults);
@@ -106,7 +200,7 @@ impl<R: Wait + Drop> Kid for FakeKid<R> {
     fn in_done(&mut self) -> Option<PumpDone<Drain>> {
         self.in_looks = one_more(self.in_looks);
         let Inward { pipe, ring } = self.inward.take()?;
-        let done = pump_in(&self.rt, ring, pipe);
+        let done = pump_in(&self.rt, ring, pipe, &mut PipeWait::none());
         self.faults = one_more(self.faults);
         self.in_end = Some(done.end);
         Some(done)
@@ -114,7 +208,8 @@ impl<R: Wait + Drop> Kid for FakeKid<R> {
 
     fn kill(&mut self) {
         self.kills = one_more(self.kills);
-        self.exits_after = 0;
+        self.plan.exits_after = 0;
+        self.plan.hours.exit = 0;
     }
 
     fn reap(&mut self) -> Reap {
@@ -122,17 +217,36 @@ impl<R: Wait + Drop> Kid for FakeKid<R> {
         if self.reaped {
             return Reap::Exited;
         }
-        if self.reaps_fail > 0 {
-            self.reaps_fail -= 1;
+        if self.plan.reaps_fail > 0 {
+            self.plan.reaps_fail -= 1;
             self.faults = one_more(self.faults);
             return Reap::Failed;
         }
-        if self.exits_after > 0 {
-            self.exits_after -= 1;
+        if self.plan.exits_after > 0 {
+            self.plan.exits_after -= 1;
+            return Reap::Running;
+        }
+        if !self.has_come(self.plan.hours.exit) {
             return Reap::Running;
         }
         self.reaped = true;
         Reap::Exited
+    }
+
+    // What is waited for comes at once.
+    fn end(&mut self) -> bool {
+        self.plan.starts_after = 0;
+        self.plan.hours.start = 0;
+        let _ = self.started();
+        if let Some(Birth::Unborn) = self.birth {
+            return true;
+        }
+        self.kill();
+        if let Reap::Exited = self.reap() {
+            return true;
+        }
+        self.faults = one_more(self.faults);
+        false
     }
 }
 
@@ -158,6 +272,7 @@ pub struct FakeSpawner<R> {
     writes: u32,
     /// What the output of the first program waits for.
     gate: Option<Arc<AtomicBool, Global>>,
+    watch: Option<Arc<Watch, Global>>,
     threads: Vec<Worker<OutJob<Source>>>,
     faults: u64,
     taken: u64,
@@ -175,10 +290,19 @@ impl<R> FakeSpawner<R> {
             at_once: usize::MAX,
             writes: ALL,
             gate: None,
+            watch: None,
             threads: Vec::new(alloc),
             faults: 0,
             taken: 0,
         }
+    }
+
+    /// The first program has one plan and those after it another, and they are watched.
+    pub fn watched(rt: R, alloc: Global, plans: [Plan; 2], watch: Arc<Watch, Global>) -> Self {
+        let mut spawner = FakeSpawner::new(rt, alloc, plans[0]);
+        spawner.later = plans[1];
+        spawner.watch = Some(watch);
+        spawner
     }
 
     /// The first program has one plan and those after it another. Each takes one byte at a time, so often. The pumps of the outputs
@@ -200,9 +324,28 @@ impl<R> FakeSpawner<R> {
             at_once: 1,
             writes,
             gate,
+            watch: None,
             threads,
             faults: 0,
             taken: 0,
+        }
+    }
+}
+
+impl<R> FakeSpawner<R> {
+    // The watch for one more program.
+    fn watch(&self) -> Result<Option<Arc<Watch, Global>>, AllocError> {
+        match &self.watch {
+            Some(watch) => Ok(Some(Arc::try_clone(watch)?)),
+            None => Ok(None),
+        }
+    }
+
+    // The input of one more.
+    fn drain(&self, input: PipeEnd) -> Drain {
+        match input {
+            PipeEnd::Good => Drain::new(self.alloc, self.at_once, self.writes),
+            end => Drain::ending(self.alloc, self.at_once, 0, end),
         }
     }
 }
@@ -215,7 +358,7 @@ impl<R: Wait + Copy + Drop> FakeSpawner<R> {
         match (self.runs, self.threads.pop()) {
             (Runs::Last, _) => return Some(job),
             (Runs::First, Some(thread)) => drop(thread.give(job)),
-            (Runs::First, None) => job.run(&self.rt),
+            (Runs::First, None) => job.run(&self.rt, &mut PipeWait::none()),
         }
         None
     }
@@ -236,20 +379,22 @@ impl<R: Wait + Copy + Drop> Spawner for FakeSpawner<R> {
     ) -> Result<FakeKid<R>, SpawnFault> {
         let plan = self.plan;
         self.plan = self.later;
-        if plan.start_fails {
+        if let Start::Refused = plan.start {
             self.faults = one_more(self.faults);
             return Err(SpawnFault::Failed);
         }
-        let Ok(hands) = OutHands::new(self.alloc) else {
+        let (Ok(hands), Ok(watch)) = (OutHands::new(self.alloc), self.watch()) else {
             return Err(SpawnFault::NoMemory);
         };
         let source = Source {
             bytes: plan.pieces,
-            fails: plan.out_fails,
+            end: plan.output,
             gate: self.gate.take(),
             faults: 0,
         };
-        let writes = if plan.in_fails { 0 } else { self.writes };
+        if let Some(watch) = &watch {
+            watch.note_begun();
+        }
         let (job, output) = hands.pump(source, ring);
         let outward = self.begin(job);
         Ok(FakeKid {
@@ -259,11 +404,12 @@ impl<R: Wait + Copy + Drop> Spawner for FakeSpawner<R> {
             outward,
             output,
             inward: Some(Inward {
-                pipe: Drain::new(self.alloc, self.at_once, writes),
+                pipe: self.drain(plan.input),
                 ring: feed,
             }),
-            reaps_fail: plan.reaps_fail,
-            exits_after: plan.exits_after,
+            plan,
+            watch,
+            birth: None,
             out_end: None,
             in_end: None,
             reaped: false,
@@ -272,10 +418,14 @@ impl<R: Wait + Copy + Drop> Spawner for FakeSpawner<R> {
             out_looks: 0,
             in_looks: 0,
             reap_looks: 0,
+            start_looks: 0,
         })
     }
 
     fn take_back(&mut self, kid: FakeKid<R>) {
+        if let Some(watch) = &kid.watch {
+            watch.note_back(kid.is_over());
+        }
         drop(kid);
         self.taken = self.taken.wrapping_add(1);
     }

@@ -1,10 +1,13 @@
 ghost use Rattle.std.specs.Prelude.{◌≡◌};
 
+mod late;
 mod maker;
 
 use super::acts::{act_of, site};
 use super::events;
 use super::events::number;
+use super::kids::Start;
+use super::ports::Ending;
 use child_book::{Blank, Ledger};
 use child_edge::Spawner;
 use edge_loop::{Maker, NetOutside, NetWorld, Order, Orders};
@@ -21,20 +24,21 @@ use std::test::Fail;
 fn letter(event: &Event) -> u8 {
     match events::letter(event) {
         b'u' => b'f',
-        b'f' | b'g' | b'i' | b'm' | b'x' => b'?',
+        b'f' | b'i' | b'm' | b'x' => b'?',
         other => other,
     }
 }
 
 // The acts that answer an event: a child is started for each client, whose number it has, and once it has exited, or
-// was not started, the client is written to and shut.
+// was not started, the client is written to and shut. Where that is gone the child is killed and given up.
 fn answer(letter: u8) -> &'static [u8] {
     match letter {
         b'a' => b"w",
-        b'c' => b"S",
+        b'c' => b"Sw",
         b's' => b"FEc",
         b'b' => b"c",
         b'd' | b'q' | b'f' => b"h",
+        b'g' => b"KRs",
         b'w' => b"s",
         _ => b"",
     }
@@ -160,10 +164,12 @@ const PLAIN: Plan = Plan {
     clients: 1,
     accepts_fail: false,
     waits_fail: 0,
-    starts_fail: false,
+    start: Start::Good,
+    starts_after: 0,
     exits_after: 2,
     order: None,
     at: 0,
+    ending: Ending::Nothing,
 };
 
 /// What the devices do, how many events are heard, which those are, how often anything failed.
@@ -200,7 +206,7 @@ fn a_loop_tells_what_is_due(rt: HostRuntime) -> Result<(), Fail> {
         ),
         (
             Plan {
-                starts_fail: true,
+                start: Start::Refused,
                 ..PLAIN
             },
             6,

@@ -2,17 +2,19 @@ mod script;
 
 use super::acts::site;
 use super::kids;
-use super::kids::{FakeSpawner, Plan};
-use super::pipes::{Drain, Source};
+use super::kids::{FakeSpawner, Plan, Start};
+use super::pipes::{Drain, PipeEnd, Source};
 use child_edge::{ChildSet, Spawner};
 use crossbeam_utils::sync::Parker;
 use host_base::{NoMemory, Peer, Sink, Site, Text};
 use host_trace::{Mode, World};
 use once_edge::{OnceOutside, OnceWorld, StdioSocket};
 use pipe_pump::{PipeIn, rings};
-use pump_pool::{Job, OutHands, OutJob, Station, Worker};
+use pipe_wait::{PipeWait, PipeWaker};
+use pump_pool::{Job, OutHands, OutJob, Station, Worker, start_thread};
 use script::{Ran, Script, run};
 use std::alloc::Global;
+use std::net::Net;
 use std::process::{Processes, SystemProcess};
 use std::sync::atomic::AtomicBool;
 use std::sync::{Arc, Wait};
@@ -44,7 +46,7 @@ fn once_refuses<
 #[test]
 fn it_serves_no_sockets(rt: HostRuntime) -> Result<(), Fail> {
     let alloc = rt.alloc();
-    let start: Box<dyn Fn(Station<PumpJob>) -> bool + Send> = Box::new(
+    let start: Box<dyn Fn(Station<PumpJob>) -> Option<PipeWaker> + Send> = Box::new(
         alloc,
         move |station: Station<PumpJob>| PumpJob::start_thread(&rt, station),
     )?;
@@ -63,7 +65,7 @@ fn socket<R: Wait, P: PipeIn + Drop, K: Sink + Drop>(
 ) -> Result<StdioSocket<P, K>, NoMemory> {
     let (ring, tap) = rings(alloc, 16)?;
     let (job, pump) = OutHands::new(alloc)?.pump(pipe, ring);
-    job.run(rt);
+    job.run(rt, &mut PipeWait::none());
     Ok(StdioSocket::new(tap, pump, sink))
 }
 
@@ -87,11 +89,11 @@ fn outside<R: Wait + Clock + Copy + Drop, S: Spawner + Drop, P: PipeIn + Drop, K
     )
 }
 
-// A pipe of so many bytes before the end, which is a failure or not.
-fn pipe_of(client: (u32, bool)) -> Source {
+// A pipe of so many bytes, and what comes after them.
+fn pipe_of(client: (u32, PipeEnd)) -> Source {
     Source {
         bytes: client.0,
-        fails: client.1,
+        end: client.1,
         gate: None,
         faults: 0,
     }
@@ -100,22 +102,25 @@ fn pipe_of(client: (u32, bool)) -> Source {
 /// What the devices of one run do.
 #[derive(Clone, Copy)]
 struct Devices {
-    /// How many bytes come before the end, and whether that is a failure.
-    client: (u32, bool),
-    output: (u32, bool),
+    /// How many bytes come, and what after them.
+    client: (u32, PipeEnd),
+    output: (u32, PipeEnd),
     /// How many writes are good.
     input: u32,
     puts: u32,
-    starts: bool,
+    start: Start,
+    /// So many asks for what became of it are too early.
+    starts_after: u32,
     reaps_fail: u32,
 }
 
 const GOOD: Devices = Devices {
-    client: (1, false),
-    output: (1, false),
+    client: (1, PipeEnd::Good),
+    output: (1, PipeEnd::Good),
     input: 9,
     puts: 9,
-    starts: true,
+    start: Start::Good,
+    starts_after: 0,
     reaps_fail: 0,
 };
 
@@ -123,16 +128,17 @@ impl Devices {
     // What starts the one program.
     fn spawner<R>(self, rt: R, alloc: Global) -> FakeSpawner<R> {
         let none = Plan {
-            start_fails: true,
+            start: Start::Refused,
             ..kids::PLAIN
         };
         let plan = Plan {
+            start: self.start,
+            starts_after: self.starts_after,
             pieces: self.output.0,
-            out_fails: self.output.1,
-            in_fails: false,
+            output: self.output.1,
             reaps_fail: self.reaps_fail,
             exits_after: 0,
-            start_fails: !self.starts,
+            ..kids::PLAIN
         };
         FakeSpawner::with_threads(rt, alloc, [plan, none], self.input, None, Vec::new(alloc))
     }
@@ -173,7 +179,7 @@ fn a_client_and_a_start_fail(rt: HostRuntime) -> Result<(), Fail> {
         (GOOD, b"acstdfbwez", 0),
         (
             Devices {
-                client: (0, true),
+                client: (0, PipeEnd::Failed),
                 ..GOOD
             },
             b"agz",
@@ -181,7 +187,7 @@ fn a_client_and_a_start_fail(rt: HostRuntime) -> Result<(), Fail> {
         ),
         (
             Devices {
-                client: (1, true),
+                client: (1, PipeEnd::Failed),
                 ..GOOD
             },
             b"acstdgz",
@@ -189,7 +195,7 @@ fn a_client_and_a_start_fail(rt: HostRuntime) -> Result<(), Fail> {
         ),
         (
             Devices {
-                starts: false,
+                start: Start::Refused,
                 ..GOOD
             },
             b"acqz",
@@ -202,12 +208,53 @@ fn a_client_and_a_start_fail(rt: HostRuntime) -> Result<(), Fail> {
     Ok(())
 }
 
+// The client is gone while its child is being started, which is killed and given up then.
+#[test]
+fn a_start_is_told_once_its_client_is_gone(rt: HostRuntime) -> Result<(), Fail> {
+    let late = Devices {
+        client: (1, PipeEnd::Failed),
+        starts_after: 2,
+        ..GOOD
+    };
+    let rows: [Row; 4] = [
+        (late, b"acgstdz", 1),
+        (
+            Devices {
+                start: Start::Fails,
+                ..late
+            },
+            b"acgqz",
+            2,
+        ),
+        // .. and while it waits.
+        (
+            Devices {
+                client: (1, PipeEnd::Good),
+                ..late
+            },
+            b"acfstbdwez",
+            0,
+        ),
+        (
+            Devices {
+                client: (1, PipeEnd::Good),
+                start: Start::Fails,
+                ..late
+            },
+            b"acfqz",
+            1,
+        ),
+    ];
+    assert_eq!(rt; wrong_row(rt, rt.alloc(), &rows)?, None);
+    Ok(())
+}
+
 #[test]
 fn a_child_fails(rt: HostRuntime) -> Result<(), Fail> {
     let rows: [Row; 7] = [
         (
             Devices {
-                output: (0, true),
+                output: (0, PipeEnd::Failed),
                 ..GOOD
             },
             b"acstdfxz",
@@ -215,7 +262,7 @@ fn a_child_fails(rt: HostRuntime) -> Result<(), Fail> {
         ),
         (
             Devices {
-                output: (1, true),
+                output: (1, PipeEnd::Failed),
                 ..GOOD
             },
             b"acstdfbwxz",
@@ -272,21 +319,22 @@ fn are_in_order(letters: &[u8]) -> bool {
     second < given && given < first && first < letters.len()
 }
 
-fn two_threads<R: Threads + Wait + Copy + Drop + Send + 'static>(
+fn two_threads<R: Threads + Wait + Net + Copy + Drop + Send + 'static>(
     rt: &R,
     alloc: Global,
 ) -> Result<Vec<Worker<OutJob<Source>>>, NoMemory> {
     let mut threads = Vec::new(alloc);
     for _ in 0..2 {
         let (worker, station) = Worker::pair(alloc)?;
-        let _ = station.start(rt);
-        threads.push(worker)?;
+        if let Some(waker) = start_thread(rt, station) {
+            threads.push(worker.woken_by(waker))?;
+        }
     }
     Ok(threads)
 }
 
 // What starts two children whose outputs are read in threads of their own: that of the first waits for the end of the second.
-fn gated<R: Threads + Wait + Copy + Drop + Send + 'static>(
+fn gated<R: Threads + Wait + Net + Copy + Drop + Send + 'static>(
     rt: R,
     alloc: Global,
     gate: &Arc<AtomicBool, Global>,
@@ -308,7 +356,7 @@ fn pumps_run_beside_each_other(rt: HostRuntime) -> Result<(), Fail> {
     let gate = Arc::new(alloc, AtomicBool::new(false))?;
     let spawner = gated(rt, alloc, &gate)?;
     let sink = Drain::new(alloc, 1, 0);
-    let outside = outside(rt, alloc, pipe_of((0, false)), sink, spawner)?;
+    let outside = outside(rt, alloc, pipe_of((0, PipeEnd::Good)), sink, spawner)?;
     let ran = run(alloc, outside, Script::Two, &gate)?;
     assert!(rt; are_in_order(ran.letters.as_slice()));
     assert_eq!(rt; ran.faults_at_end, 0);

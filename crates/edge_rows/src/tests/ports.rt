@@ -85,6 +85,13 @@ impl Socket for FakeSocket {
         }
     }
 
+    #[tactic(auto, using(socket_set::proofs::Ends::nothing_cut))]
+    fn end_receiving(&mut self) {
+        if let Ending::Nothing = self.client.ending {
+            self.client.ending = Ending::End;
+        }
+    }
+
     fn end_sending(&mut self) {}
 }
 

@@ -3,9 +3,10 @@ ghost use Rattle.pipe_pump.specs.Rings.{IsOtherEnd, is_open};
 
 mod relay;
 
-use super::pipes::{ALL, Drain, Pieces, Told};
+use super::pipes::{ALL, Drain, Pieces, PipeEnd, Told};
 use host_base::NoMemory;
 use pipe_pump::*;
+use pipe_wait::PipeWait;
 use relay::{feed_through, relay};
 use std::alloc::Global;
 use std::sync::Wait;
@@ -30,40 +31,42 @@ fn has_taken(tap: &mut Tap, ring: RingEnd, taken: &[u8]) -> bool
         && tap.take(&mut into) == 0
 }
 
-// Whether the pump of a pipe ends so, which gives these pieces and fails or not, and what it gave is taken.
+// Whether the pump of a pipe ends so, which gives these pieces and then ends so itself, and what it gave is taken.
 fn pumps_out<R: Wait>(
     rt: &R,
     alloc: Global,
     pieces: &'static [&'static [u8]],
-    fails: bool,
+    pipe_end: PipeEnd,
     end: PumpEnd,
     taken: &[u8],
 ) -> Result<bool, NoMemory> {
     let pipe = Pieces {
         pieces,
-        fails,
+        end: pipe_end,
         faults: 0,
     };
     let (ring, mut tap) = rings(alloc, 16)?;
-    let done = pump_out(rt, pipe, ring);
-    let ended = done.end == end && done.pipe.faults == u64::from(fails);
+    let done = pump_out(rt, pipe, ring, &mut PipeWait::none());
+    let ended = done.end == end && done.pipe.faults == pipe_end.faults();
     Ok(has_taken(&mut tap, done.ring, taken) && ended)
 }
 
 #[test]
 fn what_a_pipe_gives_is_taken(rt: HostRuntime) -> Result<(), Fail> {
     let alloc = rt.alloc();
-    // (pieces, the pipe fails at its end, the end of the pump, what was taken)
-    let rows: [(&'static [&'static [u8]], bool, PumpEnd, &[u8]); 4] = [
-        (&[b"ab", b"c"], false, PumpEnd::AtEnd, b"abc"),
-        (&[b"ab"], true, PumpEnd::Broken, b"ab"),
-        (&[], false, PumpEnd::AtEnd, b""),
-        (&[], true, PumpEnd::Broken, b""),
+    // (pieces, what comes after them, the end of the pump, what was taken)
+    let rows: [(&'static [&'static [u8]], PipeEnd, PumpEnd, &[u8]); 6] = [
+        (&[b"ab", b"c"], PipeEnd::Good, PumpEnd::AtEnd, b"abc"),
+        (&[b"ab"], PipeEnd::Failed, PumpEnd::Broken, b"ab"),
+        (&[b"ab", b"c"], PipeEnd::LetGo, PumpEnd::LetGo, b"abc"),
+        (&[], PipeEnd::Good, PumpEnd::AtEnd, b""),
+        (&[], PipeEnd::Failed, PumpEnd::Broken, b""),
+        (&[], PipeEnd::LetGo, PumpEnd::LetGo, b""),
     ];
-    for (pieces, fails, end, taken) in rows {
+    for (pieces, pipe_end, end, taken) in rows {
         assert!(rt;
-            pumps_out(&rt, alloc, pieces, fails, end, taken)?,
-            "{pieces:?} {fails}"
+            pumps_out(&rt, alloc, pieces, pipe_end, end, taken)?,
+            "{pieces:?} {pipe_end:?}"
         );
     }
     Ok(())
@@ -80,11 +83,12 @@ fn is_filled(feeder: &mut Feeder) -> bool
     fed == 3 && left == 3 && more == 1 && !feeder.is_open()
 }
 
-// Whether the pump to a pipe that fails at the write of this number ends so, and the pipe took this.
+// Whether the pump to a pipe ends so, of which so many writes are good before it ends so itself, and the pipe took this.
 fn pumps_in<R: Wait>(
     rt: &R,
     alloc: Global,
-    fails_at: u32,
+    writes: u32,
+    pipe_end: PipeEnd,
     end: PumpEnd,
     taken: &[u8],
 ) -> Result<bool, NoMemory> {
@@ -94,28 +98,35 @@ fn pumps_in<R: Wait>(
         end: ended,
         pipe,
         ..
-    } = pump_in(rt, ring, Drain::new(alloc, 2, fails_at));
+    } = pump_in(
+        rt,
+        ring,
+        Drain::ending(alloc, 2, writes, pipe_end),
+        &mut PipeWait::none(),
+    );
     Ok(
         filled
             && ended == end
             && pipe.taken.as_slice() == taken
-            && pipe.faults == u64::from(fails_at < 9)
-            && pipe.is_finished == (fails_at == 9),
+            && pipe.faults == pipe_end.faults()
+            && pipe.is_finished == (end == PumpEnd::AtEnd),
     )
 }
 
 #[test]
 fn what_is_fed_is_taken_by_the_pipe(rt: HostRuntime) -> Result<(), Fail> {
-    // (the pipe fails at the write of this number, the end of the pump, what the pipe took)
-    let rows: [(u32, PumpEnd, &[u8]); 3] = [
-        (9, PumpEnd::AtEnd, b"abcd"),
-        (1, PumpEnd::Broken, b"ab"),
-        (0, PumpEnd::Broken, b""),
+    // (so many writes are good, what becomes of the next, the end of the pump, what the pipe took)
+    let rows: [(u32, PipeEnd, PumpEnd, &[u8]); 5] = [
+        (9, PipeEnd::Good, PumpEnd::AtEnd, b"abcd"),
+        (1, PipeEnd::Failed, PumpEnd::Broken, b"ab"),
+        (0, PipeEnd::Failed, PumpEnd::Broken, b""),
+        (1, PipeEnd::LetGo, PumpEnd::LetGo, b"ab"),
+        (0, PipeEnd::LetGo, PumpEnd::LetGo, b""),
     ];
-    for (fails_at, end, taken) in rows {
+    for (writes, pipe_end, end, taken) in rows {
         assert!(rt;
-            pumps_in(&rt, rt.alloc(), fails_at, end, taken)?,
-            "{fails_at}"
+            pumps_in(&rt, rt.alloc(), writes, pipe_end, end, taken)?,
+            "{writes} {pipe_end:?}"
         );
     }
     Ok(())
@@ -125,12 +136,12 @@ fn what_is_fed_is_taken_by_the_pipe(rt: HostRuntime) -> Result<(), Fail> {
 fn end_without_tap<R: Wait>(rt: &R, alloc: Global) -> Result<PumpEnd, NoMemory> {
     let pipe = Pieces {
         pieces: &[b"ab", b"c", b"d"],
-        fails: false,
+        end: PipeEnd::Good,
         faults: 0,
     };
     let (ring, tap) = rings(alloc, 2)?;
     drop(tap);
-    Ok(pump_out(rt, pipe, ring).end)
+    Ok(pump_out(rt, pipe, ring, &mut PipeWait::none()).end)
 }
 
 // Whether a pump whose feeder is gone is abandoned, and its pipe took what was fed.
@@ -138,7 +149,7 @@ fn is_abandoned<R: Wait>(rt: &R, alloc: Global) -> Result<bool, NoMemory> {
     let (mut feeder, ring) = feed_rings(alloc, 8)?;
     feeder.feed(b"abc");
     drop(feeder);
-    let done = pump_in(rt, ring, Drain::new(alloc, 2, ALL));
+    let done = pump_in(rt, ring, Drain::new(alloc, 2, ALL), &mut PipeWait::none());
     Ok(done.end == PumpEnd::Abandoned && done.pipe.taken.as_slice() == b"abc".as_slice())
 }
 
@@ -158,8 +169,27 @@ fn are_relayed<R: Threads + Wait + Copy + Drop + Send + 'static>(
 ) -> Result<bool, Fail>
     requires { 0 < size }
 {
-    let (taken, end, _) = relay(rt, alloc, Told::new(bytes, alloc)?, size)?;
+    let (taken, end, _) = relay(rt, alloc, Told::new(bytes, usize::MAX, alloc)?, size)?;
     Ok(end == PumpEnd::AtEnd && taken.as_slice() == bytes)
+}
+
+// Whether of a pipe that is let go after half of its bytes those come whole through a pump, and the others are left to it.
+fn half_is_relayed<R: Threads + Wait + Copy + Drop + Send + 'static>(
+    rt: &R,
+    alloc: Global,
+    bytes: &[u8],
+    size: usize,
+) -> Result<bool, Fail>
+    requires { 0 < size }
+{
+    let half = bytes.len() / 2;
+    let pipe = Told::new(bytes, half, alloc)?;
+    let (taken, end, pipe) = relay(rt, alloc, pipe, size)?;
+    Ok(
+        end == PumpEnd::LetGo
+            && taken.as_slice() == &bytes[..half]
+            && pipe.bytes.len() == bytes.len() - half,
+    )
 }
 
 // Whether bytes come whole through a pump to a pipe.
@@ -200,6 +230,19 @@ fn pumps_in_threads_of_their_own(rt: HostRuntime) -> Result<(), Fail> {
         (70_000, 200_000),
     ] {
         assert!(rt; come_whole(&rt, rt.alloc(), size, count)?, "{size}");
+    }
+    Ok(())
+}
+
+#[test]
+fn a_pipe_that_is_let_go_keeps_the_rest(rt: HostRuntime) -> Result<(), Fail> {
+    let alloc = rt.alloc();
+    for (size, count) in [(1usize, 300usize), (7, 3_000), (4_096, 3_000)] {
+        let bytes = counted(alloc, count)?;
+        assert!(rt;
+            half_is_relayed(&rt, alloc, bytes.as_slice(), size)?,
+            "{size}"
+        );
     }
     Ok(())
 }

@@ -5,6 +5,7 @@ use crossbeam_utils::sync::Parker;
 use host_base::{Launch, NoMemory, Pair, Pairs, Text, Texts};
 use host_trace::Event;
 use loop_bell::Bell;
+use pipe_wait::PipeWaker;
 use pump_pool::Station;
 use std::alloc::{AllocError, Global};
 use std::process::{Processes, SystemProcess};
@@ -13,10 +14,9 @@ use std::test::Fail;
 use std::time::{Clock, Duration};
 use std_spawner::*;
 
-// One word, or none where it is empty.
-fn args_of(alloc: Global, word: &str) -> Result<Texts, NoMemory> {
+fn args_of(alloc: Global, words: &[&str]) -> Result<Texts, NoMemory> {
     let mut args = Texts::new(alloc);
-    if !word.is_empty() {
+    for word in words {
         args.push(Text::copy_of(alloc, word)?)?;
     }
     Ok(args)
@@ -34,11 +34,11 @@ fn env(alloc: Global) -> Result<Pairs, NoMemory> {
     Ok(env)
 }
 
-// A program with one word, or with none where that is empty.
-fn launch(alloc: Global, program: &str, word: &str) -> Result<Launch, NoMemory> {
+// A program with these words.
+fn launch(alloc: Global, program: &str, words: &[&str]) -> Result<Launch, NoMemory> {
     let program = Text::copy_of(alloc, program)?;
     let dir = Text::copy_of(alloc, "/")?;
-    let args = args_of(alloc, word)?;
+    let args = args_of(alloc, words)?;
     let env = env(alloc)?;
     Ok(Launch {
         program,
@@ -115,9 +115,9 @@ struct Children<R, S: Spawner> {
 }
 
 impl<R: Wait + Clock + Copy + Drop, S: Spawner + Drop> Children<R, S> {
-    // Starts a program with one word, or with none where that is empty, as child k, where there is room.
-    fn begin(&mut self, k: u64, program: &str, word: &str) -> Result<(), SpawnFault> {
-        let Ok(launch) = launch(self.alloc, program, word) else {
+    // Starts a program with these words as child k, where there is room.
+    fn begin(&mut self, k: u64, program: &str, words: &[&str]) -> Result<(), SpawnFault> {
+        let Ok(launch) = launch(self.alloc, program, words) else {
             return Err(SpawnFault::NoMemory);
         };
         self.kids.start(k, 0, &launch)
@@ -149,18 +149,26 @@ impl<R: Wait + Clock + Copy + Drop, S: Spawner + Drop> Children<R, S> {
     }
 
     // Starts child k as `begin` does.
-    fn start(&mut self, k: u64, program: &str, word: &str) -> Result<(), Fail> {
-        self.begin(k, program, word)?;
+    fn start(&mut self, k: u64, program: &str, words: &[&str]) -> Result<(), Fail> {
+        self.begin(k, program, words)?;
         Ok(())
     }
 
-    // What is told of a program. It is fed this at `f`, its input is ended at `e`, and it is killed at `k`.
-    fn run(&mut self, program: &str, word: &str, steps: &[u8], input: &[u8]) -> Result<Told, Fail> {
-        self.start(0, program, word)?;
+    // What is told of a program. It is fed this at `f`, its input is ended at `e`, its output is given up at `r`, and it is
+    // killed at `k`.
+    fn run(
+        &mut self,
+        program: &str,
+        words: &[&str],
+        steps: &[u8],
+        input: &[u8],
+    ) -> Result<Told, Fail> {
+        self.start(0, program, words)?;
         for step in steps {
             match *step {
                 b'f' => self.kids.feed(0, input)?,
                 b'e' => self.kids.end_input(0),
+                b'r' => self.kids.release(0),
                 _ => self.kids.kill(0),
             }
         }
@@ -196,12 +204,12 @@ fn spawner_at<
 fn gives<R: Wait + Clock + Copy + Drop, S: Spawner + Drop>(
     programs: &mut Children<R, S>,
     program: &str,
-    word: &str,
+    words: &[&str],
     input: &[u8],
     output: &[u8],
 ) -> Result<bool, Fail> {
-    let told = programs.run(program, word, b"fe", input)?;
-    Ok(told.gave(output) && told.taken == input.len() as u64 && told.has_just(b"ed"))
+    let told = programs.run(program, words, b"fe", input)?;
+    Ok(told.gave(output) && told.taken == input.len() as u64 && told.has_just(b"sed"))
 }
 
 // Programs that read and write, and what they are started with.
@@ -210,11 +218,11 @@ fn programs_give<R: Wait + Clock + Copy + Drop, S: Spawner + Drop>(
     much: &[u8],
 ) -> Result<bool, Fail> {
     Ok(
-        gives(programs, "/bin/cat", "", b"hello", b"hello")?
-            && gives(programs, "/bin/cat", "", b"", b"")?
-            && gives(programs, "/bin/cat", "", much, much)?
-            && gives(programs, "/usr/bin/env", "", b"", b"WORD=given\n")?
-            && gives(programs, "/bin/pwd", "-P", b"", b"/\n")?,
+        gives(programs, "/bin/cat", &[], b"hello", b"hello")?
+            && gives(programs, "/bin/cat", &[], b"", b"")?
+            && gives(programs, "/bin/cat", &[], much, much)?
+            && gives(programs, "/usr/bin/env", &[], b"", b"WORD=given\n")?
+            && gives(programs, "/bin/pwd", &["-P"], b"", b"/\n")?,
     )
 }
 
@@ -223,16 +231,27 @@ fn input_fails<R: Wait + Clock + Copy + Drop, S: Spawner + Drop>(
     programs: &mut Children<R, S>,
     much: &[u8],
 ) -> Result<bool, Fail> {
-    let told = programs.run("/bin/true", "", b"f", much)?;
-    Ok(told.gave(b"") && told.has_just(b"edg"))
+    let told = programs.run("/bin/true", &[], b"f", much)?;
+    Ok(told.gave(b"") && told.has_just(b"sedg"))
 }
 
 // A program that is killed is told to have exited.
 fn is_killed<R: Wait + Clock + Copy + Drop, S: Spawner + Drop>(
     programs: &mut Children<R, S>,
 ) -> Result<bool, Fail> {
-    let told = programs.run("/bin/sleep", "1000", b"ek", b"")?;
-    Ok(told.has_just(b"ed"))
+    let told = programs.run("/bin/sleep", &["1000"], b"ek", b"")?;
+    Ok(told.has_just(b"sed"))
+}
+
+// A program that leaves another behind, which has its output, is told of to its exit and goes once its output was given up, also
+// where it is killed.
+fn leftovers_are_let_go<R: Wait + Clock + Copy + Drop, S: Spawner + Drop>(
+    programs: &mut Children<R, S>,
+) -> Result<bool, Fail> {
+    let alone = programs.run("/bin/sh", &["-c", "sleep 2 2>/dev/null &"], b"er", b"")?;
+    let waiting = ["-c", "sleep 2 2>/dev/null & wait"];
+    let killed = programs.run("/bin/sh", &waiting, b"erk", b"")?;
+    Ok(alone.has_just(b"sd") && killed.has_just(b"sd"))
 }
 
 // Programs that still run are ended with their set.
@@ -240,28 +259,39 @@ fn are_ended<R: Wait + Clock + Copy + Drop, S: Spawner + Drop>(
     programs: &mut Children<R, S>,
 ) -> Result<bool, Fail> {
     for k in 0..3 {
-        programs.start(k, "/bin/sleep", "1000")?;
+        programs.start(k, "/bin/sleep", &["1000"])?;
     }
     let running = programs.kids.running();
     programs.kids.end();
     Ok(running == 3 && programs.kids.is_empty())
 }
 
-// Whether a program is refused, and no child kept.
+// Whether the start of a program isn't handed over, and no child kept.
 fn refuses<R: Wait + Clock + Copy + Drop, S: Spawner + Drop>(
     programs: &mut Children<R, S>,
     program: &str,
 ) -> bool {
-    matches!(programs.begin(0, program, ""), Err(SpawnFault::Failed)) && programs.kids.is_empty()
+    matches!(programs.begin(0, program, &[]), Err(SpawnFault::Failed)) && programs.kids.is_empty()
 }
 
-// What the system can't run is refused.
-fn are_refused<R: Wait + Clock + Copy + Drop, S: Spawner + Drop>(
+// Whether of a program nothing is told but that it was not started, also where it was fed and killed before.
+fn fails<R: Wait + Clock + Copy + Drop, S: Spawner + Drop>(
     programs: &mut Children<R, S>,
-) -> bool {
-    refuses(programs, "/no/such/program")
-        && refuses(programs, "/etc/passwd")
-        && refuses(programs, "/")
+    program: &str,
+) -> Result<bool, Fail> {
+    let told = programs.run(program, &[], b"fk", b"hello")?;
+    Ok(told.gave(b"") && told.taken == 0 && told.has_just(b"q"))
+}
+
+// What the system can't run is not started.
+fn are_not_started<R: Wait + Clock + Copy + Drop, S: Spawner + Drop>(
+    programs: &mut Children<R, S>,
+) -> Result<bool, Fail> {
+    Ok(
+        fails(programs, "/no/such/program")?
+            && fails(programs, "/etc/passwd")?
+            && fails(programs, "/")?,
+    )
 }
 
 // Whether all holds of programs that run, or whether none can be started.
@@ -276,8 +306,9 @@ fn all_hold<R: Wait + Clock + Copy + Drop, S: Spawner + Drop>(
     Ok(
         programs_give(programs, much.as_slice())?
             && input_fails(programs, much.as_slice())?
-            && are_refused(programs)
+            && are_not_started(programs)?
             && is_killed(programs)?
+            && leftovers_are_let_go(programs)?
             && are_ended(programs)?,
     )
 }
@@ -305,7 +336,7 @@ fn all_hold_with<
 #[test]
 fn programs_run(rt: HostRuntime) -> Result<(), Fail> {
     let alloc = rt.alloc();
-    let start: Box<dyn Fn(Station<PumpJob>) -> bool + Send> = Box::new(
+    let start: Box<dyn Fn(Station<PumpJob>) -> Option<PipeWaker> + Send> = Box::new(
         alloc,
         move |station: Station<PumpJob>| PumpJob::start_thread(&rt, station),
     )?;
@@ -316,7 +347,10 @@ fn programs_run(rt: HostRuntime) -> Result<(), Fail> {
 #[test]
 fn no_child_without_threads(rt: HostRuntime) -> Result<(), Fail> {
     let alloc = rt.alloc();
-    let start: Box<dyn Fn(Station<PumpJob>) -> bool + Send> = Box::new(alloc, |_| false)?;
+    let start: Box<dyn Fn(Station<PumpJob>) -> Option<PipeWaker> + Send> = Box::new(
+        alloc,
+        |_| None,
+    )?;
     assert!(rt; all_hold_with(rt, alloc, ThreadStarter::new(start), false)?);
     Ok(())
 }

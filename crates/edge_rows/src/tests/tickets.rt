@@ -2,7 +2,8 @@ ghost use Rattle.std.specs.Prelude.{◌≡◌};
 
 use super::acts::{act_of, launch};
 use super::events;
-use super::kids::{FakeSpawner, PLAIN, Plan};
+use super::kids::{FakeSpawner, PLAIN, Plan, Start};
+use super::pipes::PipeEnd;
 use booked_children::BookedChildren;
 use child_book::{Blank, Book, Ledger};
 use child_edge::{ChildSet, Spawner};
@@ -13,7 +14,7 @@ use std::marker::Brand;
 use std::sync::{Arc, Mutex, Wait};
 use std::test::Fail;
 
-// What an event is, by a letter.
+// What an event is, by a letter. Of a start a capital.
 fn letter(event: &Event) -> u8 {
     match events::letter(event) {
         b's' => b'S',
@@ -23,7 +24,15 @@ fn letter(event: &Event) -> u8 {
     }
 }
 
-// Starts two children, feeds both, and asks so often what they have to tell.
+// What the handing over of a start answered, by a letter: H where it is handed over.
+fn begun(answer: &Option<Event>) -> u8 {
+    match answer {
+        None => b'H',
+        Some(event) => letter(event),
+    }
+}
+
+// Starts two children, feeds both, asks so often what they have to tell, and then starts a third.
 fn tell<S: Spawner + Drop, L: Ledger, R: Wait + Drop>(
     alloc: Global,
     children: &mut BookedChildren<S, L, R>,
@@ -32,7 +41,7 @@ fn tell<S: Spawner + Drop, L: Ledger, R: Wait + Drop>(
     let launch = launch(alloc)?;
     let mut told = Vec::new(alloc);
     for k in 0..2u64 {
-        told.push(letter(&children.begin(k, 0, &launch)))?;
+        told.push(begun(&children.begin(k, 0, &launch)))?;
         children.act(&act_of(alloc, b'F', k, 0)?);
         children.act(&Act::EndInput { k });
     }
@@ -43,6 +52,7 @@ fn tell<S: Spawner + Drop, L: Ledger, R: Wait + Drop>(
             told.push(letter(&event))?;
         }
     }
+    told.push(begun(&children.begin(2, 0, &launch)))?;
     Ok(told)
 }
 
@@ -95,40 +105,58 @@ fn run_children<S: Spawner + Drop, L: Ledger, R: Wait + Copy + Drop>(
     })
 }
 
-// A book of one child.
+// A book of one child. Who is being started has its ticket.
 #[test]
 fn no_ticket_is_lost(rt: HostRuntime) -> Result<(), Fail> {
     let alloc = rt.alloc();
     // (what the programs do, how often they are asked, what is told, how many run then)
-    let rows: [(Plan, u32, &[u8], usize); 6] = [
-        (PLAIN, 9, b"SUtbed", 0),
-        (PLAIN, 1, b"SUt", 1),
+    let rows: [(Plan, u32, &[u8], usize); 8] = [
+        (PLAIN, 9, b"HUStbedH", 1),
+        (PLAIN, 2, b"HUStU", 1),
         (
             Plan {
-                start_fails: true,
+                start: Start::Refused,
                 ..PLAIN
             },
             3,
-            b"FF",
+            b"FFF",
             0,
         ),
         (
             Plan {
-                out_fails: true,
+                start: Start::Fails,
                 ..PLAIN
             },
-            9,
-            b"SUtbxd",
-            0,
+            3,
+            b"HUFH",
+            1,
         ),
         (
             Plan {
-                in_fails: true,
+                starts_after: 100,
                 ..PLAIN
             },
             9,
-            b"SUbed",
-            0,
+            b"HUU",
+            1,
+        ),
+        (
+            Plan {
+                output: PipeEnd::Failed,
+                ..PLAIN
+            },
+            9,
+            b"HUStbxdH",
+            1,
+        ),
+        (
+            Plan {
+                input: PipeEnd::Failed,
+                ..PLAIN
+            },
+            9,
+            b"HUSbedH",
+            1,
         ),
         (
             Plan {
@@ -136,7 +164,7 @@ fn no_ticket_is_lost(rt: HostRuntime) -> Result<(), Fail> {
                 ..PLAIN
             },
             9,
-            b"SUtbe",
+            b"HUStbeU",
             1,
         ),
     ];

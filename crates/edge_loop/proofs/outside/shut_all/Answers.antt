@@ -1,12 +1,13 @@
 use Rattle.std.proofs.Common.{◌∙◌, arith}
-use Rattle.edge_loop.proofs.Closing.{closed_below}
+use Rattle.edge_loop.proofs.Closing.{none_closed, one_closed}
 use Rattle.edge_loop.proofs.outside.shut_all.Goals as goal
 
+pub loop-c-init : goal.loop-c-init
+loop-c-init g c = none_closed _ _ c.next_from-c.ensures.none c.next_from-c.ensures.most
+
 pub loop-c-preserved : goal.loop-c-preserved
-loop-c-preserved g c = (
-  c.shut_one.ensures.listening ∙ c.loop-c.invariant.0,
-  closed_below c.loop-c.c _ _ c.loop-c.invariant.1 c.shut_one.ensures,
-)
+loop-c-preserved g c =
+    one_closed _ _ _ _ _ c.loop-c.invariant c.shut_one.ensures c.next_from-c-in-loop-c.ensures.none c.next_from-c-in-loop-c.ensures.most
 
 pub returns-clause-shut : goal.returns-clause-shut
-returns-clause-shut g c = λ d l. c.loop-c.invariant.1 d (omega (arith, l, c.loop-c-test.false, c.accepted-c-end.ensures))
+returns-clause-shut g c = λ d l. c.loop-c.invariant.shut d (omega (arith, l, c.loop-c-test.false, c.accepted.ensures, c.loop-c.invariant.accepted))

@@ -8,7 +8,7 @@ loop-i-init g c = AllWithin-none IsHalted c.args.outs.now 0
 
 pub loop-i-preserved : goal.loop-i-preserved
 loop-i-preserved g c =
-    AllWithin-more_set c.loop-i.outs c.loop-i.i c.halt.new.self (omega (arith, c.loop-i-test.true, c.loop-i.auto.outs)) IsHalted c.loop-i.invariant c.halt.ensures
+    AllWithin-more_set c.loop-i.outs c.loop-i.i c.halt.new.self (omega (arith, c.loop-i-test.true, c.loop-i.auto.outs)) IsHalted c.loop-i.invariant c.halt.ensures.halted
 
 pub returns : goal.returns
 returns g c =

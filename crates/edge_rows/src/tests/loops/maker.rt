@@ -1,8 +1,8 @@
 // What makes loops over memory for the tests.
 use super::super::kids;
-use super::super::kids::FakeSpawner;
+use super::super::kids::{FakeSpawner, Start};
 use super::super::pipes::{all_or_none, one_more};
-use super::super::ports::{FakePorts, ONE_BYTE};
+use super::super::ports::{Client, Ending, FakePorts, ONE_BYTE};
 use edge_loop::{Maker, Order, Orders, Parts};
 use host_base::Site;
 use host_trace::EnterFault;
@@ -17,9 +17,13 @@ pub struct Plan {
     pub accepts_fail: bool,
     /// So many waits fail.
     pub waits_fail: u32,
-    pub starts_fail: bool,
+    /// What becomes of each start, and how many asks for that are too early.
+    pub start: Start,
+    pub starts_after: u32,
     /// A child runs on at so many asks for its exit.
     pub exits_after: u32,
+    /// What comes after the byte of each client.
+    pub ending: Ending,
     /// What is ordered, and before which event.
     pub order: Option<Order>,
     pub at: u32,
@@ -31,14 +35,19 @@ impl Plan {
         kids::Plan {
             pieces: 1,
             exits_after: self.exits_after,
-            start_fails: self.starts_fail,
+            start: self.start,
+            starts_after: self.starts_after,
             ..kids::PLAIN
         }
     }
 
     fn ports(&self, alloc: Global) -> FakePorts {
         let accepts_fail = all_or_none(self.accepts_fail);
-        FakePorts::new(alloc, ONE_BYTE, self.clients, accepts_fail, self.waits_fail)
+        let client = Client {
+            ending: self.ending,
+            ..ONE_BYTE
+        };
+        FakePorts::new(alloc, client, self.clients, accepts_fail, self.waits_fail)
     }
 }
 

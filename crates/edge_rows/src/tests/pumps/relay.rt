@@ -1,6 +1,6 @@
 // Pumps in threads of their own, and a loop at the other end of each ring.
 ghost use Rattle.std.specs.Prelude.{◌≡◌, ◌<◌, IfOk, false};
-ghost use Rattle.pipe_pump.specs.Rings.{IsFreshRing, IsFreshFeed, IsOtherEnd, handed_up, is_finished, put_in, SameTap};
+ghost use Rattle.pipe_pump.specs.Rings.{IsEndOf, IsFreshRing, IsFreshFeed, IsOtherEnd, handed_up, is_finished, put_in, SameTap};
 ghost use Rattle.pipe_pump.specs.Moved.{Gives};
 
 use super::super::pipes::{ALL, Drain};
@@ -8,6 +8,7 @@ use pipe_pump::{
     FeedRing, PipeIn, PumpDone, PumpEnd, PumpRing, RingEnd, Tap, feed_rings, pump_in, pump_out,
     rings,
 };
+use pipe_wait::PipeWait;
 use std::alloc::{AllocError, Global};
 use std::snapshot::Snapshot;
 use std::sync::atomic::{AtomicBool, Ordering};
@@ -31,6 +32,15 @@ impl<P: PipeIn> Promise<PumpDone<P>> for Moved<P> {
     ghost kept_by = { λ promise done. IsEndOf promise.ring.value done.ring × Gives done.end (P.left promise.pipe.value) (P.left done.pipe) (put_in done.ring) };
 }
 
+// Pumps where nobody waits for pipes.
+fn pump<R: Wait, P: PipeIn + Drop>(rt: &R, pipe: P, ring: PumpRing) -> PumpDone<P>
+    requires { IsFreshRing ring }
+    ensures ring { IsEndOf ring result.ring }
+    ensures moved { Gives result.end (P.left pipe) (P.left result.pipe) (put_in result.ring) }
+{
+    pump_out(rt, pipe, ring, &mut PipeWait::none())
+}
+
 fn start<R: Threads + Wait + Copy + Drop + Send + 'static, P: PipeIn + Send + Drop + 'static>(
     rt: &R,
     ended: Arc<AtomicBool, Global>,
@@ -47,7 +57,7 @@ fn start<R: Threads + Wait + Copy + Drop + Send + 'static, P: PipeIn + Send + Dr
     };
     let theirs = *rt;
     Ok(thread::spawn_with(rt, promise, move || {
-        let done = pump_out(&theirs, pipe, ring);
+        let done = pump(&theirs, pipe, ring);
         ended.store(true, Ordering::SeqCst);
         done
     })?)
@@ -139,7 +149,7 @@ struct Feeding {
 impl Task for Feeding {
     fn run<R: Wait>(self, rt: &R) -> PumpDone<Drain> {
         let Feeding { ring, pipe } = self;
-        pump_in(rt, ring, pipe)
+        pump_in(rt, ring, pipe, &mut PipeWait::none())
     }
 }
 

@@ -15,6 +15,11 @@ returns-in-WantChild-clause-kept c = λ T held docs o.
     owes_rests held docs T c.args.self.now.k (Out c.args.act.now) c.args.self.now.output c.args.self.now.over
     (numbered_rests c.args.act.now (ap is_some c.requires) c.args.self.now.k) o
 
+pub returns-in-EndInput-clause-kept : goal.returns-in-EndInput-clause-kept
+returns-in-EndInput-clause-kept c = λ T held docs o.
+    owes_rests held docs T c.args.self.now.k (Out c.args.act.now) c.args.self.now.output c.args.self.now.over
+    (numbered_rests c.args.act.now (ap is_some c.requires) c.args.self.now.k) o
+
 pub returns-in-Release-clause-kept : goal.returns-in-Release-clause-kept
 returns-in-Release-clause-kept c = λ T held docs o.
     owes_rests held docs T c.args.self.now.k (Out c.args.act.now) c.args.self.now.output c.args.self.now.over

@@ -1,8 +1,10 @@
-use Rattle.std.proofs.Common.{inr, refl, subst}
-use Rattle.edge_loop.specs.Loops.{IsHeard}
+use Rattle.std.proofs.Common.{inr, refl}
+use Rattle.edge_loop.proofs.Quiet.{counted_later}
 use Rattle.edge_loop.proofs.outside.NetOutside.tell.Goals as goal
 
 pub returns-clause-owed : goal.returns-clause-owed
 returns-clause-owed g c =
-    let none = c.in_default.ensures.none refl in
-    inr (none.1, subst (λ s. IsHeard g.S.Kid.Kid.tells c.wait_for_event.result s c.wait_for_event.new.self) none.0 c.wait_for_event.ensures.heard)
+    inr (record { mid = _; before = c.in_default.ensures.handed refl; after = c.wait_for_event.ensures.heard })
+
+pub returns-clause-counted : goal.returns-clause-counted
+returns-clause-counted g c = counted_later _ _ _ _ c.tell_due.ensures.counts c.wait_for_event.ensures.counted

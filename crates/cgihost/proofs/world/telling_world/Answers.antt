@@ -1,0 +1,20 @@
+-- What each loop of the real world runs in may go to a thread of its own.
+use denote.Param.Send.{sendable}
+use Rattle.std.proofs.Crossing.{crosses}
+use Rattle.std_spawner.proofs.Crosses.{belled_send, spawner_send, kid_send}
+use Rattle.once_edge.proofs.Crosses.{once_send}
+use Rattle.net_sockets.proofs.ports.NetPorts.TheSendSync as ports
+use Rattle.net_sockets.proofs.socket.TcpSocket.TheSendSync as socket
+use Rattle.net_edge.proofs.stdin.StdinOrders.TheSendSync as orders
+use Rattle.real_world.proofs.outside.Either.TheSendSync as either
+use Rattle.real_world.proofs.Crosses.{loop_send}
+use Rattle.cgihost.proofs.world.telling_world.Goals as goal
+
+pub new-serving-requires-send-W-Out : goal.new-serving-requires-send-W-Out
+new-serving-requires-send-W-Out g c κs within =
+    let r = c.type_bounds.send-R in
+    let t = c.type_bounds.send-T in
+    let k = c.type_bounds.send-K in
+    let l = c.type_bounds.send-L in
+    let y = c.type_bounds.sync-L in
+    search (sendable, crosses, either.the_field_send, once_send, loop_send, spawner_send, kid_send, belled_send, ports.the_field_send, socket.the_field_send, orders.the_field_send) depth 40 fits 50000
