@@ -180,9 +180,9 @@ fn ends_ticks_and_failures_are_told(rt: HostRuntime) -> Result<(), Fail> {
             b"Am--+-",
             0,
         ),
-        (PLAIN, b"pzppzpzp", b"A--tt", 0),
-        // Two ticks are owed, and between them a client is heard.
-        (PLAIN, b"ppzzwppp", b"A-tbt", 0),
+        (PLAIN, b"pzppzppzp", b"A--t-t", 0),
+        // Two ticks are owed: between them a client is heard, and the second comes once some time has passed.
+        (PLAIN, b"ppzzwpppzp", b"A-tb+t", 0),
         (
             Plan {
                 accepts_fail: 1,

@@ -122,11 +122,7 @@ fn a_start_is_told_at_an_end(rt: HostRuntime) -> Result<(), Fail> {
         at: 2,
         ..LATE
     };
-    let drained = Plan {
-        order: Some(Order::Drain),
-        ..stopped
-    };
-    let rows: [Row; 4] = [
+    let rows: [Row; 2] = [
         (stopped, 32, b"aczstbedw", 0),
         (
             Plan {
@@ -135,17 +131,6 @@ fn a_start_is_told_at_an_end(rt: HostRuntime) -> Result<(), Fail> {
             },
             32,
             b"aczqw",
-            1,
-        ),
-        // A quiet end waits for it.
-        (drained, 32, b"acstbedwz", 0),
-        (
-            Plan {
-                start: Start::Fails,
-                ..drained
-            },
-            32,
-            b"acqwz",
             1,
         ),
     ];
