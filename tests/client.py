@@ -543,21 +543,19 @@ def refused_upload(port):
 
 
 def full(port):
-    """Where two connections are held, as many as may be, the next waits until one of them has left."""
+    """Where two connections are held, as many as may be, the next is closed after two ticks, and nothing is said to it, unless
+    one of them has left by then."""
     held = [Connection(port) for _ in range(2)]
     for it in held:
         it.send(get("/hi"))
         same("a connection", it.reply(), (200, b"hi\n"))
     third = Connection(port)
     third.send(get("/hi"))
-    third.socket.settimeout(0.3)
-    try:
-        check(False, f"the third was told {third.more()}")
-    except socket.timeout:
-        pass
-    third.socket.settimeout(SECONDS)
+    same("the third", third.to_end(), b"")
+    third = Connection(port)
+    third.send(get("/hi"))
     held[0].close()
-    same("the third", third.reply(), (200, b"hi\n"))
+    same("the third, once one has left", third.reply(), (200, b"hi\n"))
 
 
 def turned_away(port):

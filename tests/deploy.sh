@@ -29,7 +29,7 @@ CGIHOST=$program "$root/packaging/install.sh" "$folder/prefix"
     printf 'share/man/man%s\n' 1/cgihost.1 1/cgihost-run.1 5/cgihost.toml.5
 } | sort >wanted
 same 'what is installed' "$(cd prefix && find . -type f | sed 's|^\./||' | sort)" "$(cat wanted)"
-same 'the installed program' "$(prefix/bin/cgihost check prefix/share/doc/cgihost/examples/site.toml)" 'ok: 6 scripts'
+same 'the installed program' "$(prefix/bin/cgihost check prefix/share/doc/cgihost/examples/site.toml 2>said)" 'ok: 6 scripts'
 same 'an installed example may be run' "$([ -x prefix/share/doc/cgihost/examples/hello ] && echo yes)" yes
 same 'a prefix is wanted' "$("$root/packaging/install.sh" 2>&1)" 'usage: packaging/install.sh [--uninstall] PREFIX'
 # .. and what was installed is taken away, and what isn't ours stays
@@ -56,7 +56,7 @@ fi
 # ---- the limits
 for number in 1 2; do
     { printf 'version = 1\n'; block toml "$number"; printf '[[script]]\npath = "/hello"\nprogram = "/bin/cat"\n'; } >limits
-    same "the table of limits $number" "$("$program" check limits 2>&1)" 'ok: 1 scripts'
+    same "the table of limits $number" "$("$program" check limits 2>said)" 'ok: 1 scripts'
 done
 
 # ---- orders by a FIFO that is open for writing too, as the unit and the shell have it

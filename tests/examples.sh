@@ -26,6 +26,8 @@ cgihost() {
             sleep 0.02
         done
         on_free_port "$2" && "$program" serve site "${@:3}"
+    elif [ "$1" = check ]; then
+        { "$program" "$@" 2>&1 >&3 | sed "s/:8080$/:$port/" >&2; } 3>&1
     else
         "$program" "$@"
     fi

@@ -65,7 +65,7 @@ if has 'the Debian package' dpkg-deb && has 'the Debian package' dpkg; then
         printf 'usr/share/doc/cgihost/%s\n' changelog.gz copyright
     } | sort >packed
     same 'what is packed' "$(files x)" "$(cat packed)"
-    same 'the packed program' "$(x/usr/bin/cgihost check x/etc/cgihost.toml)" 'ok: 2 scripts'
+    same 'the packed program' "$(x/usr/bin/cgihost check x/etc/cgihost.toml 2>said)" 'ok: 2 scripts'
     same 'a request of it' "$(printf 'GET /hello HTTP/1.0\r\n\r\n' | x/usr/bin/cgihost once "/hello=$PWD/x/usr/share/doc/cgihost/examples/hello" | tail -n 1)" \
         'hello from /hello, asked by 127.0.0.1'
     for page in x/usr/share/man/man?/*; do

@@ -18,8 +18,8 @@ done
 # Each literal block of the page on site files is one, in a file of its own: 1, 2, ..
 awk '/^\.Bd -literal/ { number++; shown = 1; next } /^\.Ed/ { shown = 0 } shown { print > number }' \
     "$root/docs/cgihost.toml.5"
-same 'the first site' "$("$program" check 1 2>&1)" 'ok: 2 scripts'
-same 'the second site' "$("$program" check 2 2>&1)" 'ok: 3 scripts'
+same 'the first site' "$("$program" check 1 2>said)" 'ok: 2 scripts'
+same 'the second site' "$("$program" check 2 2>said)" 'ok: 3 scripts'
 same 'there are two sites' "$(ls ./*[0-9] | wc -l)" 2
 
 # The commands and statuses: the page has each that `--help` has, and its line for words of no form is the program's.

@@ -22,6 +22,18 @@ reports() {
     fi
 }
 
+# The site is good, has so many scripts, and listens where sites of the examples do.
+checks() {
+    local text=$1
+    shift
+    run check "$1"
+    if [ "$status" = 0 ] && [ "$(cat out)" = "$text" ] && [ "$(cat err)" = "cgihost: listens at ${2:-127.0.0.1:8080}" ]; then
+        ok
+    else
+        bad "check $*: status $status, wrote $(head -c 200 out), said $(head -c 200 err)"
+    fi
+}
+
 # The words end with a status and a line on standard error, and report nothing.
 says() {
     local wanted=$1 line=$2
@@ -45,7 +57,7 @@ refused() {
 for example in small:2 site:6 live:3 hosts:3 page:3; do
     name=${example%:*}
     count=${example#*:}
-    reports "ok: $count scripts" check "$root/examples/$name.toml"
+    checks "ok: $count scripts" "$root/examples/$name.toml"
     run upgrade "$root/examples/$name.toml"
     if [ "$status" = 0 ] && grep -q '^version = 2$' out; then
         ok
@@ -53,7 +65,7 @@ for example in small:2 site:6 live:3 hosts:3 page:3; do
         bad "upgrade of $name: status $status"
     fi
     mv out upgraded
-    reports "ok: $count scripts" check upgraded
+    checks "ok: $count scripts" upgraded
     # What is written for what was written is the same text.
     run upgrade upgraded
     if cmp -s out upgraded; then
@@ -62,9 +74,11 @@ for example in small:2 site:6 live:3 hosts:3 page:3; do
         bad "upgrade of the upgraded $name differs"
     fi
 done
-reports 'ok: 1 scripts' check /hello=/bin/cat
+checks 'ok: 1 scripts' /hello=/bin/cat
 printf 'version = 2\n[[host]]\nname = "a"\n[[host.documents]]\npath = "/d"\n[host.documents.types]\ntxt = "text/plain"\n' >documents
-reports 'ok: 1 scripts' check documents
+checks 'ok: 1 scripts' documents
+printf 'version = 1\nlisten = "127.0.0.2"\nport = 8081\n[[script]]\npath = "/s"\nprogram = "/bin/cat"\n' >elsewhere
+checks 'ok: 1 scripts' elsewhere 127.0.0.2:8081
 
 # ---- each fault
 script='\n[[script]]\npath = "/s"\nprogram = "/bin/cat"\n'
@@ -106,7 +120,7 @@ head -c 2097152 /dev/zero | tr '\0' '#' >site
 unread 'site: longer than 1048576 bytes' check site
 # The longest file that is read, and one byte more.
 { printf "version = 1$script#"; head -c 1048576 /dev/zero | tr '\0' '#'; } | head -c 1048576 >site
-reports 'ok: 1 scripts' check site
+checks 'ok: 1 scripts' site
 printf '#' >>site
 unread 'site: longer than 1048576 bytes' check site
 if [ "$(id -u)" != 0 ]; then

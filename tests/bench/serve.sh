@@ -3,11 +3,12 @@
 # the least server that there can be, and with a bare loop of spawn, read to the end and wait, which has no network and as
 # many threads as there are clients: small static programs a second for 1, 8 and 64 clients, on a new connection each and
 # on kept ones; MB/s of replies of 8 MiB, and of 1 MiB sent and echoed; how late the lines of a program are at the client
-# once its reply has begun; and messages a second to /bin/cat and back, over 1 and 50 WebSockets, beside websocketd where
-# that is installed. A second table, in the same run, has as many busy processes as processors beside, which are started and
-# ended here, and nothing goes before them: small programs and scripts of sh for 8 and 64 clients, one client on a kept
-# connection, and WebSockets a second from their handshake to the first message there and back, beside bare starts. At last
-# stands what processor time a server takes by itself while 64 programs live on behind their output.
+# once its reply has begun; and messages a second to /bin/cat and back, over 1 and 50 WebSockets with one message under way
+# and over 50 with 32, beside websocketd where that is installed. A second table, in the same run, has as many busy processes
+# as processors beside, which are started and ended here, and nothing goes before them: small programs and scripts of sh for
+# 8 and 64 clients, one client on a kept connection, and WebSockets a second from their handshake to the first message there
+# and back, beside bare starts. At last stands what processor time a server takes by itself while 64 programs live on behind
+# their output.
 #
 # The aims: 1.4 times lighttpd with one loop and 1.8 with four, in the mean of the six rows of small programs, which is printed
 # behind them (single rows miss them: with one client the bare loop itself, which has no network, makes 1.6 to 1.7 times as
@@ -256,8 +257,8 @@ int main(int count, char **words) {
     if (failed) fprintf(stderr, "serve.sh: %ld new WebSockets failed\n", failed);
 }
 END
-# The WebSocket client: over SOCKETS sockets to PORT, each with one message of 15 bytes under way, for SECONDS seconds. It
-# prints how many messages came back a second.
+# The WebSocket client: over SOCKETS sockets to PORT, each with so many messages of 15 bytes UNDER_WAY, for SECONDS seconds.
+# It prints how many messages came back a second. Those that came back together are followed by as many in one write.
 cat >talk.c <<'END'
 #include <arpa/inet.h>
 #include <netinet/tcp.h>
@@ -278,9 +279,10 @@ static double now(void) {
     return it.tv_sec + it.tv_nsec / 1e9;
 }
 int main(int count, char **words) {
-    int sockets = atoi(words[2]), at;
+    int sockets = atoi(words[2]), under_way = atoi(words[4]), at;
     double seconds = atof(words[3]), end;
     long heard[64] = {0}, total = 0;
+    static char frames[64 * 21];
     struct pollfd all[64];
     (void)count;
     for (at = 0; at < sockets; at++) {
@@ -296,19 +298,21 @@ int main(int count, char **words) {
         all[at] = (struct pollfd){it, POLLIN, 0};
     }
     end = now() + seconds;
+    for (at = 0; at < 64; at++) memcpy(frames + at * 21, frame, 21);
     for (at = 0; at < sockets; at++)
-        if (write(all[at].fd, frame, 21) != 21) return 1;
+        if (write(all[at].fd, frames, under_way * 21) != under_way * 21) return 1;
     while (now() < end) {
         if (poll(all, sockets, 1000) <= 0) return 1;
         for (at = 0; at < sockets; at++) {
-            char got[4096];
-            long more = all[at].revents ? read(all[at].fd, got, sizeof got) : 0;
+            char got[64 * 17];
+            long more = all[at].revents ? read(all[at].fd, got, sizeof got) : 0, whole;
             if (all[at].revents && more <= 0) return 1;
             // A message that comes back is 17 bytes long.
-            for (heard[at] += more; heard[at] >= 17; heard[at] -= 17) {
-                total++;
-                if (write(all[at].fd, frame, 21) != 21) return 1;
-            }
+            heard[at] += more;
+            whole = heard[at] / 17;
+            heard[at] %= 17;
+            total += whole;
+            if (whole && write(all[at].fd, frames, whole * 21) != whole * 21) return 1;
         }
     }
     printf("%.1f\n", total / seconds);
@@ -461,13 +465,13 @@ row_of_setups() {
     }'
 }
 
-# A row of messages over so many WebSockets.
+# A row of messages over so many WebSockets, with so many under way in each.
 row_of_talks() {
-    local name=$1 sockets=$2 _
+    local name=$1 sockets=$2 under_way=$3 _
     rm -f ours theirs
     for _ in $(seq "$rounds"); do
-        ./talk "$port" "$sockets" "$seconds" >>ours
-        [ -z "$talked" ] || ./talk "$talks" "$sockets" "$seconds" >>theirs
+        ./talk "$port" "$sockets" "$seconds" "$under_way" >>ours
+        [ -z "$talked" ] || ./talk "$talks" "$sockets" "$seconds" "$under_way" >>theirs
     done
     [ -n "$talked" ] || echo 0 >theirs
     awk -v name="$name" -v ours="$(median <ours)" -v theirs="$(median <theirs)" 'BEGIN {
@@ -501,8 +505,9 @@ from client import *
 print("lines of a begun reply: half within %.2f ms, nine of ten within %.2f ms (aim: 2)" % lateness(int(sys.argv[1])))' \
         "$port" "$root/tests"
     for clients in 1 50; do
-        row_of_talks "$loops, $clients WebSockets, messages" "$clients"
+        row_of_talks "$loops, $clients WebSockets, messages" "$clients" 1
     done
+    row_of_talks "$loops, 50 WebSockets, 32 messages under way" 50 32
     end_server
 }
 

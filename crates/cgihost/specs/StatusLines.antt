@@ -39,6 +39,10 @@ line_of Spent = codes "cgihost: turns spent"
 line_of ReportFault = codes "cgihost: report not written"
 line_of NoMemory = codes "cgihost: out of memory"
 
+-- the line on standard error for where a site listens
+abbrev pub listening_line : List ℕ → ℕ → List ℕ
+listening_line address port = codes "cgihost: listens at " ++ address ++ codes ":" ++ decimal port
+
 -- the line on standard error for as many events that didn't fit, where any was dropped
 abbrev pub dropped_line : ℕ → List ℕ
 dropped_line count = codes "cgihost: events dropped: " ++ decimal count

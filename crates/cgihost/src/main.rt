@@ -14,6 +14,7 @@ ghost use Rattle.host_run.specs.Words.{form_of};
 ghost use Rattle.cgihost.specs.StatusLines.{number_of as number};
 
 mod fault;
+mod listening;
 mod sink;
 mod standard;
 mod store;
@@ -24,6 +25,7 @@ use doc_files::DocStore;
 use fault::{DroppedLine, FaultLine, number_of};
 use host_base::{Sink, SiteStore};
 use host_run::{Status, run};
+use listening::say_listening;
 use log_writer::{LogFault, LogLines, LogWords, OpenedLog, take_log};
 use pipe_wait::PipeWaker;
 use pump_pool::Station;
@@ -219,6 +221,14 @@ fn or_help(alloc: Global, words: Vec<String>) -> Result<Vec<String>, Status> {
     }
 }
 
+// Whether a site is to be checked.
+fn asks_check(words: &[String]) -> bool {
+    match words {
+        [word, ..] => word.as_str() == "check",
+        [] => false,
+    }
+}
+
 // Opens the log, where there is to be one.
 fn open_log<R: Files<File = File> + Eprint + Copy + Drop>(
     rt: R,
@@ -283,7 +293,8 @@ fn main(rt: HostRuntime) -> ExitCode {
         anew,
         queues,
     };
-    let mut store = FileStore::new(rt, alloc);
+    let checks = asks_check(words.as_slice());
+    let mut store = FileStore::new(rt, alloc, checks);
     let mut report = StdSink::new(rt);
     let status = run_with::<_, _, _, Brand, _, _, _>(
         &rt,
@@ -297,6 +308,9 @@ fn main(rt: HostRuntime) -> ExitCode {
     );
     if let Some(log) = log {
         log.finish(&rt);
+    }
+    if checks && number_of(&status) == 0 {
+        say_listening(&rt, alloc, store.kept());
     }
     end(&rt, &status)
 }

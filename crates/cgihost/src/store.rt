@@ -18,6 +18,9 @@ pub struct FileStore<R> {
     rt: R,
     alloc: Global,
     faults: u64,
+    // Whether what is read is kept, and what was read last.
+    keeps: bool,
+    kept: Option<Vec<u8>>,
 }
 
 // Why a file was not read.
@@ -47,14 +50,45 @@ impl fmt::Display for UnreadLine<'_, '_> {
 }
 
 impl<R> FileStore<R> {
-    pub fn new(rt: R, alloc: Global) -> Self
+    /// The files of the system, of which nothing was read. Where `keeps`, what is read is kept beside.
+    pub fn new(rt: R, alloc: Global, keeps: bool) -> Self
         ensures { result.faults ≡ 0 }
     {
         FileStore {
             rt,
             alloc,
             faults: 0,
+            keeps,
+            kept: None,
         }
+    }
+
+    /// The bytes of the file that was read last, where they are kept.
+    pub fn kept(&self) -> Option<&[u8]> {
+        match &self.kept {
+            Some(bytes) => Some(bytes.as_slice()),
+            None => None,
+        }
+    }
+
+    // Keeps these bytes, where that is to be done and there is memory for it.
+    fn keep(&mut self, bytes: &[u8])
+        ensures { self.new.faults ≡ self.old.faults }
+    {
+        if self.keeps {
+            self.kept = copy_of(self.alloc, bytes);
+        }
+    }
+}
+
+// The same bytes, where there is memory for them.
+fn copy_of(alloc: Global, bytes: &[u8]) -> Option<Vec<u8>>
+    ensures { IfSome result (λ copy. copy.items ≡ bytes.now) }
+{
+    let mut copy = Vec::new(alloc);
+    match copy.extend_from_slice(bytes) {
+        Ok(()) => Some(copy),
+        Err(_) => None,
     }
 }
 
@@ -84,7 +118,10 @@ impl<R: Files + Eprint> SiteStore for FileStore<R> {
     {
         let front = File::open(&self.rt, name).and_then(|file| front_of(self.alloc, file));
         match front {
-            Ok(bytes) if bytes.len() as u64 <= LONGEST => return Ok(bytes),
+            Ok(bytes) if bytes.len() as u64 <= LONGEST => {
+                self.keep(bytes.as_slice());
+                return Ok(bytes);
+            }
             Err(error) if error.kind() == ErrorKind::OutOfMemory => {
                 return Err(StoreFault::NoMemory);
             }

@@ -1,5 +1,5 @@
 -- What an event and an act are the cause of: full books, open connections, and counts that rise.
-use Rattle.std.proofs.Common.{◌≡◌, inl, inr, ℕ, true, false, List, [], ◌∷◌, Option, Some, None, refl, sym, subst, arith}
+use Rattle.std.proofs.Common.{◌≡◌, inl, inr, ℕ, true, false, List, [], ◌∷◌, refl, sym, subst, arith}
 use Rattle.host_trace.specs.Told.{is_full_book}
 use Rattle.host_trace.specs.declared.items.Event.{Event}
 use Rattle.host_trace.specs.declared.items.Event.TheVariants.{Accepted, ClientBytes, ClientEof, ClientGone, Wrote, Started, StartFailed, StartFull, ChildBytes, ChildEof, ChildBroken, Took, InputGone, Exited, WsText, WsBinary, WsClosed, WsBad, NoRoom, Tick, Stop}
@@ -14,7 +14,7 @@ use Rattle.socket_set.specs.Sets.{SetState, Acts as SetActs}
 use Rattle.socket_set.specs.Sets.{Counted as CountedBySet}
 use Rattle.socket_set.proofs.Sets.{counted_self as set_counts, counted_same as set_counts_same, counted_two as set_counts_two}
 use Rattle.edge_loop.specs.Orders.{ordered_by}
-use Rattle.edge_loop.specs.Loops.{LoopState, Counts, ToldNoRoom, TellsOpen, TakesOrder, Obeys, SetObeys}
+use Rattle.edge_loop.specs.Loops.{LoopState, Counts, ToldNoRoom, TellsOpen, TakesOrder, SetObeys}
 use Rattle.edge_loop.specs.declared.orders.Order.{Order}
 use Rattle.edge_loop.specs.declared.orders.Order.TheVariants.{Stop as StopNow, Drain}
 use Rattle.edge_loop.proofs.Quiet.{counts_self}

@@ -1,5 +1,5 @@
 -- Starts that were handed over, one after another, and what is told then.
-use Rattle.std.proofs.Common.{◌≡◌, ℕ, suc, [], None, inr, refl}
+use Rattle.std.proofs.Common.{◌≡◌, suc, [], None, inr, refl}
 use Rattle.host_trace.specs.declared.items.Event.{Event}
 use Rattle.child_edge.specs.Kids.{KidTells}
 use Rattle.child_edge.specs.Starts.{Repeats}

@@ -1,5 +1,5 @@
 -- What the outside of one loop remembers, and which event comes next.
-use Rattle.std.specs.Prelude.{◌≡◌, ◌≢◌, ℕ, ◌≤◌, ◌+◌, ◌-◌, ◌^◌, ◌⊎◌, min, Bool, true, false, List, [], ◌∷◌, ◌++◌, count_by, Option, Some, None, ⊤}
+use Rattle.std.specs.Prelude.{◌≡◌, ◌≢◌, ℕ, ◌≤◌, ◌<◌, ◌+◌, ◌-◌, ◌^◌, ◌⊎◌, min, true, false, List, [], ◌∷◌, ◌++◌, count_by, Option, Some, None, ⊤}
 use Rattle.std.specs.List.{All}
 use Rattle.host_base.specs.Outsides.{Rose}
 use Rattle.host_base.specs.declared.launch.Launch.{Launch}
@@ -63,6 +63,10 @@ pub record Closes (c : ℕ) (old new : SetState) : Type 0 where
   pub others : (d : ℕ) → d ≢ c → clients new d ≡ clients old d
   pub accepted : new.accepted ≡ old.accepted
   pub listening : new.listening ≡ old.listening
+
+-- each client that is there was shut
+abbrev pub NoneOpen : SetState → Type 0
+NoneOpen set = (c : ℕ) → c < set.accepted → is_open_at (clients set c) ≡ false
 
 -- What an order does to the clients: no further one is accepted, and before a quiet end each that speaks no WebSocket is
 -- heard to end.
@@ -157,10 +161,12 @@ module _ {K : Type 0} where
     pub none_open : All (λ row. row.1.shut ≡ true) s.set.rows
     pub sent : All (λ row. row.1.outgoing ≡ []) s.set.rows
 
-  -- no child is kept, and no further client is accepted
+  -- no child is kept, no further client is accepted, and each that is there was shut: what is unsent to one that takes none
+  -- of it is given up in its time
   pub record IsHalted (s : LoopState K) : Type 0 where
     pub none_kept : s.rows ≡ []
     pub deaf : s.set.listening ≡ false
+    pub closed : NoneOpen s.set
 
   -- nothing waits to be sent
   pub record IsSent (s : LoopState K) : Type 0 where

@@ -1,7 +1,7 @@
 // The outside of one loop.
 ghost use Rattle.std.specs.Prelude.{◌≡◌, ◌<◌, ℕ, false, is_ok, if◌then◌else◌};
 ghost use Rattle.socket_set.specs.Sets.{clients, is_open_at};
-ghost use Rattle.edge_loop.specs.Loops.{Closes, SetObeys};
+ghost use Rattle.edge_loop.specs.Loops.{Closes, NoneOpen, SetObeys};
 
 use super::leaving::send_one;
 use super::{Asked, Ending, Leaving, Order, Orders, Sending};
@@ -193,9 +193,9 @@ impl<
         ensures counts { Counts self.old self.new }
     {
         self.calm = 0;
-        self.sockets.catch_up();
         if self.again {
             self.again = false;
+            self.sockets.wait_for_tick();
             return;
         }
         self.sockets.wait(MOST);
@@ -524,15 +524,15 @@ impl<
         }
     }
 
-    /// Ends every child and spends all tickets, and accepts no further client. Where anything is unsent every client is
-    /// shut: one that takes none of it for 150 ticks is given up.
+    /// Ends every child and spends all tickets, accepts no further client and shuts every client that is there: one that takes
+    /// nothing of what is unsent to it for 150 ticks is given up.
     pub fn halt(&mut self)
         ensures halted { IsHalted self.new }
         ensures ended { AreEnded S.Kid.tells self.old.rows }
     {
         self.children.end_all();
         self.sockets.end_listening();
-        shut_unsent(&mut self.sockets);
+        shut_all(&mut self.sockets);
     }
 
     /// Ends every child, spends all tickets and sends what is still unsent, for at most 150 ticks without a byte that
@@ -583,20 +583,18 @@ impl<P: Ports + Drop, S: Spawner + Drop, O: Orders + Drop, L: Ledger, R: Wait + 
 
     ghost is_sent = { IsSent };
 
+    #[tactic(auto, using(crate::proofs::Closing::closed_polled))]
     fn send_some(&mut self) -> Sending {
         if self.sockets.is_all_sent() {
             return Sending::Done;
         }
         match self.sockets.poll() {
             Polled::Nothing => Sending::Blocked,
-            Polled::Told(_) => Sending::Moving,
-            Polled::Again => {
-                self.sockets.catch_up();
-                Sending::Moving
-            }
+            Polled::Told(_) | Polled::Again => Sending::Moving,
         }
     }
 
+    #[tactic(auto, using(crate::proofs::Closing::closed_quiet))]
     fn wait_to_send(&mut self, millis: u64) {
         self.sockets.wait(millis);
     }
@@ -614,19 +612,10 @@ fn tell_clients<P: Ports + Drop>(sockets: &mut SocketSet<P>, order: Order)
     }
 }
 
-// Shuts every client, where anything waits to be sent.
-fn shut_unsent<P: Ports + Drop>(sockets: &mut SocketSet<P>)
-    ensures { sockets.new.listening ≡ sockets.old.listening }
-{
-    if !sockets.is_all_sent() {
-        shut_all(sockets);
-    }
-}
-
 // Shuts every client that is there.
 fn shut_all<P: Ports + Drop>(sockets: &mut SocketSet<P>)
     ensures listening { sockets.new.listening ≡ sockets.old.listening }
-    ensures shut { (c : ℕ) → c < sockets.old.accepted → is_open_at (clients sockets.new c) ≡ false }
+    ensures shut { NoneOpen sockets.new }
 {
     let mut c = sockets.next_from(0);
     while c < sockets.accepted() {

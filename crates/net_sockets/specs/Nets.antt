@@ -18,9 +18,17 @@ pub record IsSameSocket (old new : TcpSocket) : Type 0 where
   pub faults : new.faults ≡ old.faults
 
 module _ {R : Type 0} where
-  -- what ports tell of their clock and their failures
+  -- what ports tell of their clock, their failures and the client that came last
   abbrev pub ports_tell : NetPorts R → PortsTell
-  ports_tell ports = record { shown = ports.shown; looks = ports.looks; waits = ports.waits; failed = ports.failed }
+  ports_tell ports =
+      record {
+        shown = ports.shown;
+        looks = ports.looks;
+        waits = ports.waits;
+        failed = ports.failed;
+        peer = ports.peer.value;
+        secs = ports.secs;
+      }
 
   -- ports of which nothing was asked
   pub record IsFresh (ports : NetPorts R) : Type 0 where

@@ -1,7 +1,6 @@
 // The ports of one loop: its listener, the wait for its sockets, and the clock.
 ghost use Rattle.std.specs.Prelude.{◌≡◌, true, IfOk};
 ghost use Rattle.host_base.specs.Outsides.{Rose};
-ghost use Rattle.socket_set.specs.Devices.{is_answered};
 ghost use Rattle.net_sockets.specs.Nets.{IsFresh};
 
 use super::poll::CountedPoll;
@@ -16,6 +15,7 @@ use std::alloc::{AllocError, Global};
 use std::io;
 use std::io::ErrorKind;
 use std::net::{IpAddr, Net};
+use std::snapshot::Snapshot;
 use std::time::{Clock, Duration};
 
 // The seconds of the year 10,000, which no clock shows.
@@ -36,6 +36,10 @@ pub struct NetPorts<R> {
     looks: u64,
     waits: u64,
     failed: u64,
+    // Who sent the client that was given last.
+    peer: Snapshot<Option<Peer>>,
+    // What the clock showed when it was asked for its seconds last.
+    secs: u64,
 }
 
 impl<R: Net + Clock + Drop> NetPorts<R> {
@@ -60,6 +64,8 @@ impl<R: Net + Clock + Drop> NetPorts<R> {
                 looks: 0,
                 waits: 0,
                 failed: 0,
+                peer: Snapshot::of(&None),
+                secs: 0,
             },
             bell,
         ))
@@ -67,11 +73,42 @@ impl<R: Net + Clock + Drop> NetPorts<R> {
 }
 
 impl<R: Clock> NetPorts<R> {
+    ghost use Rattle.std.specs.Prelude.{◌≡◌};
+    ghost use Rattle.socket_set.specs.Devices.{Accepts};
+    ghost use Rattle.net_sockets.specs.Nets.{ports_tell};
+
     // Milliseconds since it was made. A clock that can't be read stands still.
     fn millis(&self) -> u64 {
         match self.rt.monotonic() {
             Ok(now) => millis_between(self.start, now),
             Err(_) => self.shown.saturating_mul(100),
+        }
+    }
+
+    // The client of a connection. For want of memory there is none.
+    fn give(&mut self, stream: TcpStream, ip: IpAddr) -> Arrival<TcpSocket>
+        ensures { Accepts result (ports_tell self.old) (ports_tell self.new) }
+    {
+        match peer_of(self.alloc, ip) {
+            Ok(peer) => self.give_of(stream, peer),
+            Err(_) => {
+                self.count();
+                Arrival::Failed
+            }
+        }
+    }
+
+    fn give_of(&mut self, stream: TcpStream, peer: Peer) -> Arrival<TcpSocket>
+        ensures { Accepts result (ports_tell self.old) (ports_tell self.new) }
+    {
+        let given = Some(peer);
+        self.peer = Snapshot::of(&given);
+        match given {
+            Some(peer) => Arrival::Client {
+                socket: TcpSocket::new(stream),
+                peer,
+            },
+            None => Arrival::Nothing,
         }
     }
 
@@ -97,17 +134,6 @@ fn peer_of(alloc: Global, ip: IpAddr) -> Result<Peer, AllocError> {
     Ok(Peer(Text::from_string(ip.to_string(alloc)?)))
 }
 
-// The client of a connection.
-fn client_of(alloc: Global, stream: TcpStream, ip: IpAddr) -> Result<Arrival<TcpSocket>, AllocError>
-    ensures { IfOk result (λ arrival. is_answered arrival ≡ true) }
-{
-    let peer = peer_of(alloc, ip)?;
-    Ok(Arrival::Client {
-        socket: TcpSocket::new(stream),
-        peer,
-    })
-}
-
 impl<R: Clock> Ports for NetPorts<R> {
     ghost use Rattle.std.specs.Prelude.{◌≡◌};
     ghost use Rattle.net_sockets.specs.Nets.{ports_tell, GivesReport};
@@ -125,13 +151,7 @@ impl<R: Clock> Ports for NetPorts<R> {
             None => return Arrival::Nothing,
         };
         match accepted {
-            Ok((stream, address)) => match client_of(self.alloc, stream, address.ip()) {
-                Ok(client) => client,
-                Err(_) => {
-                    self.count();
-                    Arrival::Failed
-                }
-            },
+            Ok((stream, address)) => self.give(stream, address.ip()),
             Err(error) if error.kind() == ErrorKind::WouldBlock => {
                 self.share.settle();
                 Arrival::Nothing
@@ -198,9 +218,10 @@ impl<R: Clock> Ports for NetPorts<R> {
     }
 
     fn seconds(&mut self) -> u64 {
-        match self.rt.since_1970() {
+        self.secs = match self.rt.since_1970() {
             Ok(now) => now.as_secs().min(SECONDS_END - 1),
             Err(_) => 0,
-        }
+        };
+        self.secs
     }
 }

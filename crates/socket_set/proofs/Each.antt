@@ -1,8 +1,8 @@
 -- Clients that are changed one after another, by rising numbers.
-use Rattle.std.proofs.Common.{◌≡◌, ◌≢◌, ◌∙◌, ◌+◌, ◌≤◌, ◌<◌, ℕ, Option, Some, None, refl, sym, ap, subst, inl, inr, arith}
+use Rattle.std.proofs.Common.{◌≡◌, ◌≢◌, ◌∙◌, ◌+◌, ◌≤◌, ◌<◌, ℕ, Option, None, refl, sym, subst, inl, inr, arith}
 use Rattle.std.proofs.lemmas.Bool.{cases_order}
 use Rattle.socket_set.specs.Clients.{ClientState}
-use Rattle.socket_set.specs.Sets.{SetState, clients, OnClient, OnOne, On, OnEach, SameCounts, SameDevices}
+use Rattle.socket_set.specs.Sets.{SetState, clients, OnClient, On, OnEach, SameCounts, SameDevices}
 use Rattle.socket_set.proofs.Sets.{counts_self, counts_two, devices_self, devices_two}
 
 -- those below c were changed, and the others are as they were

@@ -12,7 +12,7 @@ use Rattle.socket_set.specs.Sockets.{SocketTells, Moves}
 use Rattle.std.proofs.lemmas.Bool.{cases_eq}
 use Rattle.std.specs.Option.{IsSome, IfSome}
 use Rattle.socket_set.specs.Sets.{SetState, clients, is_shut_at, OnClient, OnOne, On, Inserts, Leaves, SameDevices, SameClients, client_of, Goes, AllRest, OthersRest, OneSays, Arrives, SameCounts, Tells, IsQuiet, IsIdle, OwesNoTick, Counted}
-use Rattle.socket_set.specs.Devices.{Waits, AsksClock}
+use Rattle.socket_set.specs.Devices.{Waits, AsksClock, Shows}
 
 moves_self : (t : Option (List ℕ)) (w : List ℕ) → Moves t w t w []
 moves_self None w = tt
@@ -187,10 +187,11 @@ tells_two (Accepted peer) a b d p q = (
   q.1 ∙ p.counts.ticked,
   sym p.counts.listening ∙ q.2,
   q.3,
-  arrives_two b.accepted a.accepted (clients a) (clients b) (clients d) p.rest (sym p.counts.accepted) q.4,
+  q.4,
+  arrives_two b.accepted a.accepted (clients a) (clients b) (clients d) p.rest (sym p.counts.accepted) q.5,
 )
 tells_two (Tick secs) a b d p q =
-    (q.0 ∙ p.counts.accepted, q.1 ∙ ap (λ n. n + 1) p.counts.ticked, q.2 ∙ p.counts.listening, q.3, q.4, all_two (clients a) (clients b) (clients d) p.rest q.5)
+    (q.0 ∙ p.counts.accepted, q.1 ∙ ap (λ n. n + 1) p.counts.ticked, q.2 ∙ p.counts.listening, q.3, q.4, q.5, all_two (clients a) (clients b) (clients d) p.rest q.6)
 tells_two (ClientBytes c x) a b d p q = others_two (ClientBytes c x) a b d p q
 tells_two (ClientEof c) a b d p q = others_two (ClientEof c) a b d p q
 tells_two (ClientGone c) a b d p q = others_two (ClientGone c) a b d p q
@@ -283,14 +284,15 @@ quiet_left c a b shut h =
     }
 
 -- the client that was accepted
-pub accepted_told : (peer : Peer) (t : SocketTells) (n s : ClientState) (a b d : SetState) → a.listening ≡ true → SameClients a b → IsNewClient t n
-    → s ≡ n → Inserts s b d → Tells (Accepted peer) a d
-accepted_told peer t n s a b d on same new e h =
+pub accepted_told : (peer : Peer) (t : SocketTells) (n s : ClientState) (a b d : SetState) → a.listening ≡ true → b.ports.peer ≡ Some peer → SameClients a b
+    → IsNewClient t n → s ≡ n → Inserts s b d → Tells (Accepted peer) a d
+accepted_told peer t n s a b d on given same new e h =
     let clients_same : (c : ℕ) → clients b c ≡ clients a c = λ c. ap (λ rows. client_of rows c) same.rows in (
       h.accepted ∙ ap (λ k. k + 1) same.counts.accepted,
       h.ticked ∙ same.counts.ticked,
       on,
       h.listening ∙ (same.counts.listening ∙ on),
+      ap (λ p. p.peer) h.devices.ports ∙ given,
       record {
         s = s;
         is_now = ap (λ k. clients d k) (sym same.counts.accepted) ∙ h.is_now;
@@ -363,6 +365,20 @@ pub asked_counted : (a b : SetState) → b.faults ≡ a.faults → AsksClock a.p
 asked_counted a b f h =
     let waits : b.ports.waits ≡ a.ports.waits = ap (λ p. p.waits) h.rest in
     record { grown = omega (arith, f); looks = h.grown; waits = omega (arith, waits); ports = inl (ap (λ p. p.failed) h.rest) }
+
+-- the clock was asked for its seconds
+pub shown_counted : (secs : ℕ) (a b : SetState) → b.faults ≡ a.faults → Shows secs a.ports b.ports → Counted a b
+shown_counted secs a b f h =
+    let looks : b.ports.looks ≡ a.ports.looks = ap (λ p. p.looks) h in
+    let waits : b.ports.waits ≡ a.ports.waits = ap (λ p. p.waits) h in
+    record { grown = omega (arith, f); looks = omega (arith, looks); waits = omega (arith, waits); ports = inl (ap (λ p. p.failed) h) }
+
+-- a client came
+pub given_counted : (peer : Peer) (a b : SetState) → b.faults ≡ a.faults → b.ports ≡ record a.ports { peer = Some peer } → Counted a b
+given_counted peer a b f h =
+    let looks : b.ports.looks ≡ a.ports.looks = ap (λ p. p.looks) h in
+    let waits : b.ports.waits ≡ a.ports.waits = ap (λ p. p.waits) h in
+    record { grown = omega (arith, f); looks = omega (arith, looks); waits = omega (arith, waits); ports = inl (ap (λ p. p.failed) h) }
 
 -- a wait was made
 pub waited_counted : (a b : SetState) → b.faults ≡ a.faults → Waits true a.ports b.ports → Counted a b

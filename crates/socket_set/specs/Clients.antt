@@ -5,6 +5,8 @@ use Rattle.host_trace.specs.declared.items.Event.{Event}
 use Rattle.host_trace.specs.declared.items.Event.TheVariants.{ClientBytes, ClientEof, ClientGone, Wrote, WsText, WsBinary, WsClosed, WsBad, NoRoom}
 use Rattle.host_trace.specs.Told.{is_failure}
 use Rattle.host_base.specs.Outsides.{Rose}
+use Rattle.ws_link.specs.declared.answer.Linked.{Linked}
+use Rattle.ws_link.specs.declared.answer.Linked.TheVariants as Link
 use Rattle.socket_set.specs.Devices.{PortsTell}
 use Rattle.socket_set.specs.Sockets.{SocketTells, Moves, EndsReceiving}
 
@@ -182,6 +184,15 @@ SaysMessage c (WsClosed d) = d ≡ c
 SaysMessage c (WsBad d) = d ≡ c
 SaysMessage c (NoRoom d) = d ≡ c
 SaysMessage c _ = ⊥
+
+-- what a link's answer is told as
+abbrev pub event_of : ℕ → Linked → Option Event
+event_of c (Link.Text bytes) = Some (WsText c bytes)
+event_of c Link.Binary = Some (WsBinary c)
+event_of c Link.Closed = Some (WsClosed c)
+event_of c Link.Bad = Some (WsBad c)
+event_of c Link.NotYet = None
+event_of c Link.NoMemory = Some (NoRoom c)
 
 -- a count of faults rises with each event of failure and each failure of the ports
 pub record CountsFaults (event : Option Event) (ports_old ports_new : PortsTell) (old new : ℕ) : Type 0 where

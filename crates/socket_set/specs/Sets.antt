@@ -13,6 +13,8 @@ use Rattle.host_trace.specs.declared.outside.Acted.{Acted}
 use Rattle.host_trace.specs.declared.outside.Acted.TheVariants.{Done, NoRoom as HasNoRoom}
 use Rattle.socket_set.specs.declared.set.Polled.{Polled}
 use Rattle.socket_set.specs.declared.set.Polled.TheVariants.{Told, Nothing, Again}
+use Rattle.socket_set.specs.declared.ports.Arrival.{Arrival}
+use Rattle.socket_set.specs.declared.ports.Arrival.TheVariants.{Client, Nothing as Missing, Failed}
 use Rattle.socket_set.specs.Devices.{PortsTell}
 use Rattle.socket_set.specs.Clients.{ClientState, IsStillOrShut, Rests, Says, UnlessShut, Keeps, WantsMore, Writes, Upgrades, Frames, Shuts}
 
@@ -89,10 +91,11 @@ pub record SameCounts (old new : SetState) : Type 0 where
 -- what the event says of the set, and its cause
 abbrev pub Tells : Event → SetState → SetState → Type 0
 Tells (Accepted peer) old new =
-    (new.accepted ≡ old.accepted + 1) × (new.ticked ≡ old.ticked) × (old.listening ≡ true) × (new.listening ≡ true) × Arrives old.accepted (clients old) (clients new)
+    (new.accepted ≡ old.accepted + 1) × (new.ticked ≡ old.ticked) × (old.listening ≡ true) × (new.listening ≡ true) × (new.ports.peer ≡ Some peer)
+    × Arrives old.accepted (clients old) (clients new)
 Tells (Tick secs) old new =
-    (new.accepted ≡ old.accepted) × (new.ticked ≡ old.ticked + 1) × (new.listening ≡ old.listening) × (new.ticked ≤ new.ports.shown) × (secs < 253402300800)
-    × AllRest (clients old) (clients new)
+    (new.accepted ≡ old.accepted) × (new.ticked ≡ old.ticked + 1) × (new.listening ≡ old.listening) × (new.ticked ≤ new.ports.shown) × (secs ≡ new.ports.secs)
+    × (secs < 253402300800) × AllRest (clients old) (clients new)
 Tells event old new = SameCounts old new × OneSays event (clients old) (clients new)
 
 -- nothing was told
@@ -167,6 +170,12 @@ pub record OnEach (R : ClientState → ClientState → Type 0) (old new : SetSta
 pub record SameClients (old new : SetState) : Type 0 where
   pub rows : new.rows ≡ old.rows
   pub counts : SameCounts old new
+
+-- a client that came is of the peer that the ports told last
+abbrev pub IsOf : {S : Type 0} → Arrival S → SetState → Type 0
+IsOf (Client socket peer) set = set.ports.peer ≡ Some peer
+IsOf Missing set = ⊤
+IsOf Failed set = ⊤
 
 -- the client has the next number, beside the others
 pub record Inserts (s : ClientState) (old new : SetState) : Type 0 where

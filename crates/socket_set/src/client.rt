@@ -1,6 +1,6 @@
 // One client: its socket, and what waits to be sent to it and to be told of it.
 ghost use Rattle.std.specs.Prelude.{◌≡◌, IfSome, IsNone};
-ghost use Rattle.socket_set.specs.Clients.{SaysMessage, has_failed};
+ghost use Rattle.socket_set.specs.Clients.{SaysMessage, event_of, has_failed};
 
 use super::{Outgoing, Ports, Received, Sent, Socket};
 use host_base::{Bytes, NoMemory, Text};
@@ -80,7 +80,7 @@ impl<S: Socket> Model for Client<S> {
 impl<S: Socket> Client<S> {
     ghost use Rattle.std.specs.Prelude.{◌≡◌, ◌++◌, ◌+◌, ◌-◌, ◌^◌, ◌≤◌, ◌<◌, ◌==◌, [], true, false, None, min, length, sum_by, IfSome, IsNone, OnOk, OnErr};
     ghost use Rattle.socket_set.specs.Devices.{FailsUnless};
-    ghost use Rattle.socket_set.specs.Clients.{Rests, Says, CountsFaults, UnlessShut, IsNewClient, Writes, Upgrades, Frames, Shuts, EndsHearing, is_plain, WantsMore, SameButUntold, IsUnwanted, Notes, Fails, SaysMessage, IsStill, IsStillOrShut, HasMuch, is_behind};
+    ghost use Rattle.socket_set.specs.Clients.{Rests, Says, CountsFaults, UnlessShut, IsNewClient, Writes, Upgrades, Frames, Shuts, EndsHearing, is_plain, WantsMore, SameButUntold, IsUnwanted, Notes, Fails, SaysMessage, event_of, IsStill, IsStillOrShut, HasMuch, is_behind};
 
     /// A client of which nothing was heard.
     pub fn new(alloc: Global, socket: S) -> Self
@@ -653,6 +653,7 @@ impl<S: Socket> Client<S> {
 
     fn say_message(&mut self, c: u64, linked: Linked) -> Option<Event>
         requires wanted { self.old.wanted ≡ true }
+        ensures event { result ≡ event_of c linked }
         ensures some { IfSome result (λ event. SaysMessage c event × IsUnwanted self.old self.new) }
         ensures none { IsNone result → self.new ≡ self.old }
     {
@@ -670,6 +671,7 @@ impl<S: Socket> Client<S> {
 
 // What a link's answer is told as.
 fn message_event(c: u64, linked: Linked) -> Option<Event>
+    ensures event { result ≡ event_of c linked }
     ensures some { IfSome result (SaysMessage c) }
     ensures none { IsNone result → linked ≡ Linked.NotYet }
 {

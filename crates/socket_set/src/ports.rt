@@ -1,6 +1,6 @@
 // Where clients come from, what tells that a socket is ready, and the clock.
 ghost use Rattle.std.specs.Prelude.{◌≡◌, ◌<◌, ◌≤◌};
-ghost use Rattle.socket_set.specs.Devices.{PortsTell, FailsUnless, Waits, AsksClock, is_answered};
+ghost use Rattle.socket_set.specs.Devices.{PortsTell, FailsUnless, Waits, AsksClock, Accepts, Shows};
 
 use super::Socket;
 use host_base::Peer;
@@ -30,12 +30,12 @@ pub enum Ready {
 pub trait Ports {
     type Socket: Socket + Drop;
 
-    /// What it tells of its clock and its failures.
+    /// What it tells of its clock, its failures and the client that came last.
     ghost tells: { Self → PortsTell };
 
     /// The next client that waits.
     fn accept(&mut self) -> Arrival<Self::Socket>
-        ensures { FailsUnless (is_answered result) (tells self.old) (tells self.new) };
+        ensures { Accepts result (tells self.old) (tells self.new) };
 
     /// No further client comes: the listening socket is let go, and once all who share it have done so its address is free.
     fn end_listening(&mut self)
@@ -74,5 +74,5 @@ pub trait Ports {
     /// The Unix seconds that the clock shows, below those of the year 10,000.
     fn seconds(&mut self) -> u64
         ensures range { result < 253402300800 }
-        ensures same { tells self.new ≡ tells self.old };
+        ensures shows { Shows result (tells self.old) (tells self.new) };
 }

@@ -15,8 +15,12 @@ use std::marker::Model;
 // How many bytes one read takes at most.
 const PIECE: usize = 65_536;
 
-// For so many milliseconds what came meanwhile is heard between two ticks that are both owed.
-const BETWEEN_TICKS: u64 = 20;
+// While there is no slot for it, whoever waits is left to other loops for so many ticks. Then it is accepted, to be refused.
+const LEFT_TICKS: u64 = 2;
+
+// So many milliseconds lie at least between two ticks that are both owed: what came meanwhile is heard in them, and programs
+// have time to run.
+const BETWEEN_TICKS: u64 = 50;
 
 // What stands before the next tick that is owed.
 #[derive(Clone, Copy, Debug, PartialEq, Eq)]
@@ -25,7 +29,7 @@ enum Pause {
     None,
     /// Another was just told.
     Begins,
-    /// Another was told, and since so many milliseconds of the clock it is heard what came meanwhile.
+    /// Another was told, and since the clock showed so many milliseconds what came meanwhile is heard.
     Since(u64),
 }
 
@@ -49,10 +53,14 @@ pub struct SocketSet<P: Ports> {
     leaving: VecDeque<u64>,
     // Who is asked next. Each stands there once.
     due: VecDeque<Due>,
+    // So many of the clients were shut.
+    shut: usize,
     // No further client is accepted.
     ended: bool,
-    // .. until the next tick, or until a client has left.
+    // .. until the next tick, or until a client was shut or has left.
     paused: bool,
+    // So many ticks had been told when whoever waits was first left to other loops.
+    left_in: Option<u64>,
     listener_queued: bool,
     // So many may be told before the ports are asked again what is ready.
     round: usize,
@@ -80,12 +88,13 @@ impl<P: Ports> Model for SocketSet<P> {
 }
 
 impl<P: Ports + Drop> SocketSet<P> {
-    ghost use Rattle.std.specs.Prelude.{◌≡◌, ◌+◌, ◌-◌, ◌^◌, ◌≤◌, ◌<◌, ℕ, true, false, [], None, All, IfOk, IfSome, IsSome, IsNone};
+    ghost use Rattle.std.specs.Prelude.{◌≡◌, ◌+◌, ◌-◌, ◌^◌, ◌≤◌, ◌<◌, ℕ, true, false, [], None, Some, All, IfOk, IfSome, IsSome, IsNone};
     ghost use Rattle.host_base.specs.Outsides.{Rose};
     ghost use Rattle.socket_set.specs.Clients.{Says, Rests, Keeps, EndsHearing, IsStillOrShut, has_failed};
-    ghost use Rattle.socket_set.specs.Sets.{SetState, Tells, IsQuiet, IsIdle, OwesNoTick, told_by, Counted, OnOne, On, OnEach, Inserts, Leaves, SameDevices, SameClients, is_shut_at, is_open_at, clients};
+    ghost use Rattle.socket_set.specs.Sets.{SetState, Tells, IsQuiet, IsIdle, OwesNoTick, told_by, Counted, OnOne, On, OnEach, Inserts, Leaves, SameDevices, SameClients, IsOf, is_shut_at, is_open_at, clients};
 
-    /// A set of no client yet, with room for `most`, those that were shut among them.
+    /// A set of no client yet, with slots for `most`, and room for as many that were shut. One more than there are slots for
+    /// is accepted if nobody else takes it, and is to be shut.
     pub fn new(alloc: Global, ports: P, most: u32) -> Result<SocketSet<P>, NoMemory>
         ensures none { IfOk result (λ set. set.rows ≡ []) }
         ensures counts { IfOk result (λ set. (set.accepted ≡ 0) × (set.ticked ≡ 0) × (set.faults ≡ 0)) }
@@ -97,10 +106,12 @@ impl<P: Ports + Drop> SocketSet<P> {
             alloc,
             ports,
             clients: BTreeMap::new(alloc),
-            leaving: VecDeque::with_capacity(alloc, most)?,
-            due: VecDeque::with_capacity(alloc, most.saturating_add(1))?,
+            leaving: VecDeque::with_capacity(alloc, most.saturating_mul(2))?,
+            due: VecDeque::with_capacity(alloc, most.saturating_mul(2).saturating_add(1))?,
+            shut: 0,
             ended: false,
             paused: false,
+            left_in: None,
             listener_queued: false,
             round: 0,
             given: 0,
@@ -365,6 +376,7 @@ impl<P: Ports + Drop> SocketSet<P> {
     {
         if let Some(mut client) = self.clients.remove(&c) {
             client.forget(&mut self.ports);
+            self.shut = self.shut.saturating_sub(1);
             self.resume();
         }
     }
@@ -387,8 +399,8 @@ impl<P: Ports + Drop> SocketSet<P> {
         }
     }
 
-    // Takes the next client that waits. Where that fails, or there is no room, it is tried again once a client has left, and
-    // after the next tick.
+    // Takes the next client that waits. Where that fails, or there is no room, it is tried again once a client was shut or
+    // has left, and after the next tick.
     #[tactic(auto, using(crate::proofs::Sets::quiet_self, crate::proofs::Sets::counted_self))]
     fn accept(&mut self) -> Option<Event>
         ensures some { IfSome result (λ event. Tells event self.old self.new) }
@@ -396,26 +408,105 @@ impl<P: Ports + Drop> SocketSet<P> {
         ensures counted { Counted self.old self.new }
         ensures failure { has_failed result ≡ true → Rose self.old.faults self.new.faults }
     {
+        if self.is_for_next() {
+            self.take_next()
+        } else {
+            None
+        }
+    }
+
+    // Whether the next client is asked for.
+    fn is_for_next(&mut self) -> bool
+        ensures same { self.new ≡ self.old }
+        ensures listening { result ≡ true → self.old.listening ≡ true }
+        ensures room { result ≡ true → self.old.accepted < 2 ^ 64 - 1 }
+    {
         self.listener_queued = false;
         if self.ended || self.paused {
-            return None;
+            return false;
         }
-        if self.clients.len() >= self.most || self.accepted == u64::MAX {
-            self.paused = true;
-            return None;
+        if self.has_room() {
+            return true;
         }
-        match self.ports.accept() {
+        self.wait_for_room();
+        false
+    }
+
+    fn wait_for_room(&mut self)
+        ensures { self.new ≡ self.old }
+    {
+        self.paused = true;
+    }
+
+    #[tactic(auto, using(crate::proofs::Sets::quiet_same, crate::proofs::Sets::quiet_two, crate::proofs::Sets::counted_two, crate::proofs::Sets::tells_two, crate::proofs::Sets::rose_later))]
+    fn take_next(&mut self) -> Option<Event>
+        requires room { self.old.accepted < 2 ^ 64 - 1 }
+        requires listening { self.old.listening ≡ true }
+        ensures some { IfSome result (λ event. Tells event self.old self.new) }
+        ensures none { IsNone result → IsQuiet self.old self.new }
+        ensures counted { Counted self.old self.new }
+        ensures failure { has_failed result ≡ true → Rose self.old.faults self.new.faults }
+    {
+        match self.arrival() {
             Arrival::Client { socket, peer } => {
                 self.enqueue_listener();
                 self.admit(socket, peer)
             }
-            Arrival::Nothing => None,
+            Arrival::Nothing => {
+                self.left_in = None;
+                None
+            }
             Arrival::Failed => {
-                self.faults = self.faults.saturating_add(1);
                 self.paused = true;
                 None
             }
         }
+    }
+
+    // What comes of asking for the next client. A failure is counted.
+    #[tactic(auto, using(crate::proofs::Sets::given_counted, crate::proofs::Sets::counted_self))]
+    fn arrival(&mut self) -> Arrival<P::Socket>
+        ensures same { SameClients self.old self.new }
+        ensures given { IsOf result self.new }
+        ensures counted { Counted self.old self.new }
+    {
+        match self.ports.accept() {
+            Arrival::Client { socket, peer } => Arrival::Client { socket, peer },
+            Arrival::Nothing => Arrival::Nothing,
+            Arrival::Failed => {
+                self.faults = self.faults.saturating_add(1);
+                Arrival::Failed
+            }
+        }
+    }
+
+    // Whether the next client is taken now.
+    fn has_room(&mut self) -> bool
+        ensures same { self.new ≡ self.old }
+        ensures room { result ≡ true → self.old.accepted < 2 ^ 64 - 1 }
+    {
+        self.accepted < u64::MAX
+            && self.clients.len() < self.most.saturating_mul(2)
+            && (self.has_slot() || self.has_left_it())
+    }
+
+    fn has_slot(&mut self) -> bool
+        ensures { self.new ≡ self.old }
+    {
+        if self.clients.len().saturating_sub(self.shut) < self.most {
+            self.left_in = None;
+            return true;
+        }
+        false
+    }
+
+    // Whether other loops had the time to take it.
+    fn has_left_it(&mut self) -> bool
+        ensures { self.new ≡ self.old }
+    {
+        let first = self.left_in.unwrap_or(self.ticked);
+        self.left_in = Some(first);
+        self.ticked.saturating_sub(first) >= LEFT_TICKS
     }
 
     // Makes a client of a socket. One that can't be watched, or for which there is no memory, is let go.
@@ -423,6 +514,7 @@ impl<P: Ports + Drop> SocketSet<P> {
     fn admit(&mut self, socket: P::Socket, peer: Peer) -> Option<Event>
         requires room { self.old.accepted < 2 ^ 64 - 1 }
         requires listening { self.old.listening ≡ true }
+        requires given { self.old.ports.peer ≡ Some peer }
         ensures some { IfSome result (λ event. Tells event self.old self.new) }
         ensures none { IsNone result → IsQuiet self.old self.new }
         ensures counted { Counted self.old self.new }
@@ -443,6 +535,7 @@ impl<P: Ports + Drop> SocketSet<P> {
     fn watch(&mut self, client: &mut Client<P::Socket>) -> bool
         ensures client { client.new ≡ client.old }
         ensures same { SameClients self.old self.new }
+        ensures peer { self.new.ports.peer ≡ self.old.ports.peer }
         ensures counted { Counted self.old self.new }
     {
         if client.watch(&mut self.ports, self.accepted) {
@@ -473,8 +566,9 @@ impl<P: Ports + Drop> SocketSet<P> {
     }
 
     /// A tick, where the clock has shown more than were told. Whoever waits for events asks for it before all else, so that
-    /// one comes in its time whatever there is to hear. Where another was just told, what came meanwhile is heard first, for a
-    /// short while: else a loop that was held up for long would tell all its ticks before it hears what was sent.
+    /// one comes in its time whatever there is to hear. Where another was just told, what came meanwhile is heard first, for half
+    /// of a tick's time: else a loop that was held up for long would tell all its ticks before it hears what was sent, and
+    /// before a program that it starts then can do anything.
     #[tactic(auto, using(crate::proofs::Sets::counted_same, crate::proofs::Sets::counted_two, crate::proofs::Sets::quiet_same, crate::proofs::Sets::quiet_self))]
     pub fn tick(&mut self) -> Option<Event>
         ensures some { IfSome result (λ event. Tells event self.old self.new) }
@@ -487,10 +581,22 @@ impl<P: Ports + Drop> SocketSet<P> {
         }
         self.ticked += 1;
         self.pause = Pause::Begins;
-        let secs = self.ports.seconds();
+        let secs = self.seconds();
         self.resume();
         self.tick_leaving();
         Some(Event::Tick { secs })
+    }
+
+    // The Unix seconds that the clock shows.
+    #[tactic(auto, using(crate::proofs::Sets::shown_counted))]
+    fn seconds(&mut self) -> u64
+        ensures range { result < 253402300800 }
+        ensures shown { result ≡ self.new.ports.secs }
+        ensures ticks { self.new.ports.shown ≡ self.old.ports.shown }
+        ensures rows { SameClients self.old self.new }
+        ensures counted { Counted self.old self.new }
+    {
+        self.ports.seconds()
     }
 
     // Whether a tick is owed, and nothing stands before it.
@@ -501,31 +607,37 @@ impl<P: Ports + Drop> SocketSet<P> {
         ensures counted { Counted self.old self.new }
     {
         if !self.is_tick_owed() {
-            self.catch_up();
+            self.end_pause();
             return false;
         }
-        self.is_paused_enough()
+        self.is_pause_over()
     }
 
-    /// What came meanwhile was heard: the next tick that is owed is told at once.
-    pub fn catch_up(&mut self)
+    // The next tick is told once it is owed.
+    fn end_pause(&mut self)
         ensures { self.new ≡ self.old }
     {
         self.pause = Pause::None;
     }
 
-    // Whether what came since the last tick was heard, or was for long enough. The time for it begins with the first ask.
-    fn is_paused_enough(&mut self) -> bool
+    // Whether nothing stands before a tick that is owed. The time between two begins with the first ask after the first of
+    // them, so that something is heard in it however long it takes to serve a tick.
+    fn is_pause_over(&mut self) -> bool
         ensures { self.new ≡ self.old }
     {
         let now = self.millis();
+        if self.pause == Pause::Begins {
+            self.pause = Pause::Since(now);
+        }
+        self.pause_left(now) == 0
+    }
+
+    // For so many milliseconds more the next tick isn't told, though it is owed.
+    fn pause_left(&self, now: u64) -> u64 {
         match self.pause {
-            Pause::None => true,
-            Pause::Begins => {
-                self.pause = Pause::Since(now);
-                false
-            }
-            Pause::Since(start) => now.saturating_sub(start) >= BETWEEN_TICKS,
+            Pause::None => 0,
+            Pause::Begins => BETWEEN_TICKS,
+            Pause::Since(start) => BETWEEN_TICKS.saturating_sub(now.saturating_sub(start)),
         }
     }
 

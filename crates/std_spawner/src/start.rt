@@ -24,7 +24,7 @@ use std::time::{Clock, Duration};
 // The shortest and the longest sleep between two looks for an exit, in microseconds, and how long one is that can be ended.
 const LEAST: u64 = 20;
 
-const MOST: u64 = 100_000;
+const MOST: u64 = 250_000;
 
 const LONG: u64 = 1_000;
 

@@ -7,11 +7,11 @@ use Rattle.log_outside.proofs.outside.LogOutside.TheSendSync as logged
 use Rattle.doc_files.proofs.outside.DocOutside.TheSendSync as documents
 use Rattle.std_spawner.proofs.Crosses.{belled_send, spawner_send, kid_send}
 use Rattle.once_edge.proofs.Crosses.{once_send}
-use Rattle.net_sockets.proofs.ports.NetPorts.TheSendSync as ports
 use Rattle.net_sockets.proofs.socket.TcpSocket.TheSendSync as socket
 use Rattle.net_edge.proofs.stdin.StdinOrders.TheSendSync as orders
 use Rattle.real_world.proofs.outside.Either.TheSendSync as either
 use Rattle.real_world.proofs.Crosses.{loop_send}
+use Rattle.cgihost.proofs.Crosses.{ports_send}
 use Rattle.cgihost.proofs.run_in.Goals as goal
 
 pub run-requires-send-W-Out : goal.run-requires-send-W-Out
@@ -22,4 +22,4 @@ run-requires-send-W-Out g c κs within =
     let l = c.type_bounds.send-L in
     let y = c.type_bounds.sync-L in
     let d = c.type_bounds.send-D in
-    search (sendable, crosses, log.the_send, tallies.the_field_send, logged.the_field_send, documents.the_send, either.the_field_send, once_send, loop_send, spawner_send, kid_send, belled_send, ports.the_field_send, socket.the_field_send, orders.the_field_send) depth 90 fits 50000
+    search (sendable, crosses, log.the_send, tallies.the_field_send, logged.the_field_send, documents.the_send, either.the_field_send, once_send, loop_send, spawner_send, kid_send, belled_send, ports_send, socket.the_field_send, orders.the_field_send) depth 90 fits 50000

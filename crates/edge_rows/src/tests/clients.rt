@@ -208,7 +208,9 @@ fn ends_ticks_and_failures_are_told(rt: HostRuntime) -> Result<(), Fail> {
 }
 
 #[test]
-fn who_waits_for_room_comes_once_another_has_left(rt: HostRuntime) -> Result<(), Fail> {
+fn who_waits_for_a_slot_comes_once_one_is_free_and_else_after_two_ticks(
+    rt: HostRuntime,
+) -> Result<(), Fail> {
     let alloc = rt.alloc();
     let plan = Plan {
         bytes: b"",
@@ -217,8 +219,11 @@ fn who_waits_for_room_comes_once_another_has_left(rt: HostRuntime) -> Result<(),
         ..PLAIN
     };
     let mut set = SocketSet::new(alloc, plan.ports(alloc), 1)?;
-    // The first is shut; the next ask sends our end, and the one behind it finds the client's.
+    // Once the first is shut its slot is free for the next.
     let told = told_in(alloc, &mut set, b"ppspp")?;
-    assert_eq!(rt; told.as_slice(), b"A--A".as_slice());
+    assert_eq!(rt; told.as_slice(), b"A-A-".as_slice());
+    let mut set = SocketSet::new(alloc, plan.ports(alloc), 1)?;
+    let told = told_in(alloc, &mut set, b"ppzppzpp")?;
+    assert_eq!(rt; told.as_slice(), b"A-t-tA".as_slice());
     Ok(())
 }

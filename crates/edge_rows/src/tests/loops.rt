@@ -24,7 +24,8 @@ use std::test::Fail;
 fn letter(event: &Event) -> u8 {
     match events::letter(event) {
         b'u' => b'f',
-        b'f' | b'i' | b'm' | b'x' => b'?',
+        b'f' => b'o',
+        b'i' | b'm' | b'x' => b'?',
         other => other,
     }
 }

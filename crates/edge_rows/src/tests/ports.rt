@@ -3,6 +3,7 @@ use super::pipes::one_more;
 use host_base::{Peer, Text};
 use socket_set::{Arrival, Ports, Ready, Received, Sent, Socket};
 use std::alloc::Global;
+use std::snapshot::Snapshot;
 
 /// What comes after the bytes of a client.
 #[derive(Clone, Copy)]
@@ -111,6 +112,7 @@ pub struct FakePorts {
     looks: u64,
     waits: u64,
     failed: u64,
+    peer: Snapshot<Option<Peer>>,
 }
 
 impl FakePorts {
@@ -133,6 +135,7 @@ impl FakePorts {
             looks: 0,
             waits: 0,
             failed: 0,
+            peer: Snapshot::of(&None),
         }
     }
 }
@@ -140,7 +143,7 @@ impl FakePorts {
 impl Ports for FakePorts {
     type Socket = FakeSocket;
 
-    ghost tells = { λ p. record { shown = p.shown; looks = p.looks; waits = p.waits; failed = p.failed } };
+    ghost tells = { λ p. record { shown = p.shown; looks = p.looks; waits = p.waits; failed = p.failed; peer = p.peer.value; secs = 0 } };
 
     fn accept(&mut self) -> Arrival<FakeSocket> {
         if self.accepts_fail > 0 {
@@ -156,6 +159,11 @@ impl Ports for FakePorts {
             return Arrival::Failed;
         };
         self.clients -= 1;
+        let given = Some(Peer(name));
+        self.peer = Snapshot::of(&given);
+        let Some(peer) = given else {
+            return Arrival::Nothing;
+        };
         Arrival::Client {
             socket: FakeSocket {
                 client: self.client,
@@ -163,7 +171,7 @@ impl Ports for FakePorts {
                 full: false,
                 faults: 0,
             },
-            peer: Peer(name),
+            peer,
         }
     }
 

@@ -82,9 +82,13 @@ impl<P: Ports + Drop> SocketSet<P> {
         ensures { On c Shuts self.old self.new }
     {
         if let Some(client) = self.clients.get_mut(&c) {
+            if !client.is_shut() {
+                self.shut = self.shut.saturating_add(1);
+            }
             client.shut();
             client.enqueue(&mut self.due, c);
             let _ = self.leaving.push_back(c);
+            self.resume();
         }
     }
 }

@@ -29,6 +29,19 @@ impl<P: Ports + Drop> SocketSet<P> {
         self.begin_round(millis);
     }
 
+    /// Waits for the rest of the time between two ticks that are both owed, or until a client or a wake-up is at hand.
+    #[tactic(auto, using(crate::proofs::Sets::quiet_self, crate::proofs::Sets::counted_self))]
+    pub fn wait_for_tick(&mut self)
+        ensures quiet { IsQuiet self.old self.new }
+        ensures counted { Counted self.old self.new }
+    {
+        let now = self.millis();
+        let left = self.pause_left(now);
+        if left > 0 && self.due.is_empty() {
+            self.begin_round(left);
+        }
+    }
+
     // Waits, and begins a round of those that are due then.
     pub(super) fn begin_round(&mut self, millis: u64)
         ensures quiet { IsQuiet self.old self.new }

@@ -3,11 +3,11 @@ use denote.Param.Send.{sendable}
 use Rattle.std.proofs.Crossing.{crosses}
 use Rattle.std_spawner.proofs.Crosses.{belled_send, spawner_send, kid_send}
 use Rattle.once_edge.proofs.Crosses.{once_send}
-use Rattle.net_sockets.proofs.ports.NetPorts.TheSendSync as ports
 use Rattle.net_sockets.proofs.socket.TcpSocket.TheSendSync as socket
 use Rattle.net_edge.proofs.stdin.StdinOrders.TheSendSync as orders
 use Rattle.real_world.proofs.outside.Either.TheSendSync as either
 use Rattle.real_world.proofs.Crosses.{loop_send}
+use Rattle.cgihost.proofs.Crosses.{ports_send}
 use Rattle.cgihost.proofs.world.telling_world.Goals as goal
 
 pub new-serving-requires-send-W-Out : goal.new-serving-requires-send-W-Out
@@ -17,4 +17,4 @@ new-serving-requires-send-W-Out g c κs within =
     let k = c.type_bounds.send-K in
     let l = c.type_bounds.send-L in
     let y = c.type_bounds.sync-L in
-    search (sendable, crosses, either.the_field_send, once_send, loop_send, spawner_send, kid_send, belled_send, ports.the_field_send, socket.the_field_send, orders.the_field_send) depth 40 fits 50000
+    search (sendable, crosses, either.the_field_send, once_send, loop_send, spawner_send, kid_send, belled_send, ports_send, socket.the_field_send, orders.the_field_send) depth 40 fits 50000

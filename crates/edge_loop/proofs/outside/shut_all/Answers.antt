@@ -1,4 +1,4 @@
-use Rattle.std.proofs.Common.{◌∙◌, arith}
+use Rattle.std.proofs.Common.{arith}
 use Rattle.edge_loop.proofs.Closing.{none_closed, one_closed}
 use Rattle.edge_loop.proofs.outside.shut_all.Goals as goal
 
@@ -10,4 +10,4 @@ loop-c-preserved g c =
     one_closed _ _ _ _ _ c.loop-c.invariant c.shut_one.ensures c.next_from-c-in-loop-c.ensures.none c.next_from-c-in-loop-c.ensures.most
 
 pub returns-clause-shut : goal.returns-clause-shut
-returns-clause-shut g c = λ d l. c.loop-c.invariant.shut d (omega (arith, l, c.loop-c-test.false, c.accepted.ensures, c.loop-c.invariant.accepted))
+returns-clause-shut g c = λ d l. c.loop-c.invariant.shut d (omega (arith, l, c.loop-c-test.false, c.accepted.ensures))

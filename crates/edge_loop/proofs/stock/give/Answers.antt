@@ -1,4 +1,4 @@
-use Rattle.std.proofs.Common.{rules, ◌≡◌, All}
+use Rattle.std.proofs.Common.{rules, All}
 use Rattle.std.proofs.lemmas.List.Elements.{All-nil, All-push}
 use Rattle.edge_loop.specs.Loops.{IsLimited, IsFresh, IsSent}
 use Rattle.edge_loop.proofs.Fresh.{all_sent}

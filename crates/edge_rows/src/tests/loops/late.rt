@@ -122,7 +122,11 @@ fn a_start_is_told_at_an_end(rt: HostRuntime) -> Result<(), Fail> {
         at: 2,
         ..LATE
     };
-    let rows: [Row; 2] = [
+    let drained = Plan {
+        order: Some(Order::Drain),
+        ..stopped
+    };
+    let rows: [Row; 4] = [
         (stopped, 32, b"aczstbedw", 0),
         (
             Plan {
@@ -131,6 +135,17 @@ fn a_start_is_told_at_an_end(rt: HostRuntime) -> Result<(), Fail> {
             },
             32,
             b"aczqw",
+            1,
+        ),
+        // A quiet end has the client heard to end, and waits for the start.
+        (drained, 32, b"acostbedwz", 0),
+        (
+            Plan {
+                start: Start::Fails,
+                ..drained
+            },
+            32,
+            b"acoqwz",
             1,
         ),
     ];

@@ -1,0 +1,4 @@
+pub mod OrderLaws
+pub mod RunLaws
+pub mod DueLaws
+pub mod EndLaws

@@ -1,0 +1,4 @@
+// What a connection that speaks SCGI does.
+mod play;
+mod recorder;
+mod rows;

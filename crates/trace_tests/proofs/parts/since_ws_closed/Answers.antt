@@ -1,0 +1,13 @@
+-- By the place of the first.
+use Rattle.std.proofs.Common.{◌+◌, sym}
+use Rattle.std.proofs.lemmas.List.{take_rest}
+use Rattle.host_trace.proofs.FirstLaws.{since-at_position, since-no_position}
+use Rattle.host_trace.specs.Kinds.{is_ws_closed}
+use Rattle.trace_tests.proofs.parts.since_ws_closed.Goals as goal
+
+pub returns-in-Some : goal.returns-in-Some
+returns-in-Some c =
+    rw (take_rest c.args.items.now (c.in-Some.at + 1)) (sym (since-at_position (is_ws_closed c.args.c) c.args.items.now c.in-Some.at (sym c.in-Some.ensures)))
+
+pub returns-in-None : goal.returns-in-None
+returns-in-None c = sym (since-no_position (is_ws_closed c.args.c) c.args.items.now (sym c.in-None.ensures))

@@ -1,0 +1,7 @@
+-- The bytes of the items before this one.
+use Rattle.std.proofs.Common.{◌≡◌, take}
+use Rattle.host_trace.specs.Projections.{child_in}
+use Rattle.trace_tests.proofs.words.child_in.Given as goal
+
+abbrev pub invariant-loop-item : goal.invariant-loop-item
+invariant-loop-item l = l.bytes ≡ child_in (take l.item-index l.items) l.k
