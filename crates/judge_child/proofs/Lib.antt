@@ -1,0 +1,5 @@
+mod CountLaws
+mod FrontLaws
+mod GivenLaws
+mod RunLaws
+pub mod PartLaws
